@@ -1,0 +1,5 @@
+pub mod Tests
+pub mod Counts
+pub mod Halving
+pub mod Widths
+pub mod Answers
