@@ -73,6 +73,11 @@ then-decided f (none {v} n) k = reworded inr (⊎-elim (λ s. absurd (n .0 s)) (
 then-decided f (given (inl d)) k = given (inl (inl (d .0), d .1))
 then-decided f (given (inr d)) k = absurd (d .1)
 
+-- a value turned into another: the same sentences decide
+pub value-decided : {A B : Type 0} {t : List Sentence} {a : Answer A} (f : A → B) → Decided t a → Decided t (andThen a (λ v. value (f v)))
+value-decided f (none n) = none n
+value-decided f (given g) = given g
+
 -- a value in front of further ones: one of the two applies
 pub before-decided : {e : ℕ} {S T : Type 0} {a : Answer ℕ} {b : Answer (List ℕ)}
     → Decided (e if S ∷ []) a → Decided (e if T ∷ []) b → Decided (e if (S ⊎ T) ∷ []) (before a b)

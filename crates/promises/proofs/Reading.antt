@@ -6,17 +6,17 @@ use mathlib.Core.Logic.{_⊎_, inl, inr, ⊎-elim}
 use mathlib.Core.Path.{_≡_, refl, sym}
 use native.Mathlib.Omega.{arith}
 use native.Mathlib.Nat.{lt-of-not-le}
-use lib.Dec.{eqb}
+use lib.Dec.{ltb, eqb}
 use lib.ListN.{length}
-use borrow.Author.Tests.{lt-ltb, eqb-true, eqb-false}
+use borrow.Author.Tests.{lt-ltb, ltb-true, ltb-false, eqb-true, eqb-false}
 use Rattle.rules.specs.Words.{when, unless, Answer, value, refused, andThen, Test, _≤?_, _<?_, when-all}
 use Rattle.rules.specs.Record.{Index, minimumOf, lengthOf, segmentsOf, widthsOf, usedOf, start, base, offset, width, mark, widthTests, countsHold}
 use Rattle.rules.specs.Push.{deltaAt}
-use Rattle.rules.specs.Reading.{damaged, deltaRead, readIn, startsUpTo, getRule, inRange, before, reads}
+use Rattle.rules.specs.Reading.{damaged, deltaRead, readIn, startsUpTo, getRule, inRange, reads, written, rangeRule, iterRule, Span, span, targetEnd, targetRule, deltaSearch, bisectIn, basesUpTo, bisectRule, bisectRangeRule}
 use Rattle.laws.proofs.Tests.{by-test, pick-case}
 use Rattle.promises.specs.Sentences.{Sentence, _if_, Given, None}
-use Rattle.promises.specs.Table.{counts, deltaPlace, DamagedIn, DamagedAt, getTable, rangeSentences}
-use Rattle.promises.proofs.Deciding.{Decided, none, given, stop, go-on, reworded, then-decided, by-lt, by-le, by-eq, by-all, or-else, or-outside, within, before-decided}
+use Rattle.promises.specs.Table.{counts, position, deltaPlace, DamagedIn, DamagedAt, getTable, rangeSentences, rangeTable, iterTable, targetTable, LostIn, LostAt, bisectTable, bisectRangeTable}
+use Rattle.promises.proofs.Deciding.{Decided, none, given, stop, go-on, reworded, then-decided, value-decided, by-lt, by-le, by-eq, by-all, or-else, or-outside, within, before-decided}
 use Rattle.promises.proofs.CountsRule.{counts-rule, counts-broken}
 
 -- 9 comes first
@@ -54,13 +54,20 @@ get-inside : (x : Index) (p : ℕ) → countsHold x ≡ true → p < lengthOf x 
 unfolding getRule
 get-inside x p c l = rw (c, lt-ltb p (lengthOf x) l) (found-decided x p)
 
+-- a call that goes on from get(p): 9, 5, then what follows
+pub position-first : {A : Type 0} (x : Index) (p : ℕ) (f : Answer ℕ → Answer A) {t : List Sentence} → ((e : ℕ) → f (refused e) ≡ refused e)
+    → (countsHold x ≡ true → p < lengthOf x → Decided t (f (getRule x p))) → Decided (counts x ∷ position x p ∷ t) (f (getRule x p))
+unfolding getRule
+position-first x p f stands k =
+    by-test (countsHold x)
+    (λ c. go-on (λ broken. broken (counts-rule x c)) (by-test (ltb p (lengthOf x))
+    (λ l. go-on (λ over. let inside = ltb-true p (lengthOf x) l in omega arith) (k c (ltb-true p (lengthOf x) l)))
+    (λ l. rw (c, l, stands 5) (stop (ltb-false p (lengthOf x) l)))))
+    (λ c. rw (c, stands 9) (stop (counts-broken x .1 c)))
+
 -- get(p)
 pub get-decided : (x : Index) (p : ℕ) → Decided (getTable x p) (getRule x p)
-unfolding getRule
-get-decided x p =
-    counts-first x (λ c. by-lt p (lengthOf x)
-    (λ l. go-on (λ over. omega arith) (found-decided x p))
-    (λ over. stop over))
+get-decided x p = position-first x p (λ a. a) (λ e. refl) (get-inside x p)
 
 -- a range a..b: 9, 6, 7, then what follows
 pub range-first : {A : Type 0} (x : Index) (a b : ℕ) {t : List Sentence} {rest : Answer A}
@@ -84,3 +91,76 @@ reads-decided x a (suc n) c l =
     (λ e. inl (rw (eqb-true (d .0) a e) at (d .3)))
     (λ e. let other = eqb-false (d .0) a e in inr (d .0, omega arith, omega arith, d .3)))
     (before-decided (get-inside x a c (omega arith)) (reads-decided x (suc a) n c (omega arith)))
+
+-- get_range(a..b): its number of values, or the first refusal
+written-decided : {t : List Sentence} {a : Answer (List ℕ)} (out : List ℕ) → Decided t a → Decided t (written out a .answer)
+written-decided out (none n) = none n
+written-decided out (given g) = given g
+
+pub range-decided : (x : Index) (a b : ℕ) (out : List ℕ) → Decided (rangeTable x a b out) (rangeRule x a b out .answer)
+unfolding rangeRule
+range-decided x a b out =
+    written-decided out (range-first x a b (λ c l h. by-le (b - a) (length out)
+    (λ room. go-on (λ over. omega arith)
+    (let e : a + (b - a) ≡ b = omega arith in rw e at (reads-decided x a (b - a) c (omega arith))))
+    (λ over. stop over)))
+
+-- opening a cursor
+pub iter-decided : (x : Index) (a b : ℕ) → Decided (iterTable x a b) (iterRule x a b)
+unfolding iterRule
+iter-decided x a b = range-first x a b (λ c l h. none tt)
+
+-- the end of a target range: get(p + 1) is damaged where it is read
+end-decided : (x : Index) (p t : ℕ) → countsHold x ≡ true → Decided (10 if ((p + 2 ≤ lengthOf x) × DamagedAt x (p + 1)) ∷ []) (targetEnd x p t)
+unfolding targetEnd
+end-decided x p t c =
+    by-lt (lengthOf x) (p + 2)
+    (λ l. none (λ d. omega arith, tt))
+    (λ l. value-decided (λ next. min next t) (reworded (λ d. (l, d)) (λ d. d .1) (get-inside x (p + 1) c (omega arith))))
+
+-- target_range(p, t)
+pub target-decided : (x : Index) (p t : ℕ) → Decided (targetTable x p) (targetRule x p t)
+unfolding targetRule
+target-decided x p t =
+    let goes-on : ℕ → Answer Span = λ from. andThen (targetEnd x p t) (λ to. value (span from to)) in
+    position-first x p (λ a. andThen a goes-on) (λ e. refl)
+    (λ c l. then-decided goes-on (get-inside x p c l) (λ from. value-decided (span from) (end-decided x p t c)))
+
+-- v searched in segment s
+search-decided : (x : Index) (s v : ℕ) → Decided (10 if (LostIn x s v) ∷ []) (bisectIn x s v)
+unfolding bisectIn deltaSearch
+search-decided x s v =
+    let w = width x s in let m = minimumOf x in let from = offset x s in let to = mark x (s + 1) in
+    let many = (to - from) / w in let most = lengthOf x - start x s - 1 in
+    by-le (lengthOf x) (start x s) (λ l. stop (inl l))
+    (λ l. by-eq (base x s) v
+    (λ e. none (⊎-elim (λ b. omega arith) (⊎-elim (λ b. omega arith) (λ b. omega arith)), tt))
+    (λ e. by-lt v (base x s) (λ over. stop (inr (inl over)))
+    (λ h. let past : base x s < v = omega arith in
+    by-lt s (widthsOf x)
+    (λ there. by-all (m ≤? w ∷ w ≤? 8 ∷ from ≤? to ∷ to ≤? (usedOf x) ∷ many ≤? most ∷ [])
+    (λ f. none (⊎-elim (λ b. omega arith) (⊎-elim (λ b. omega arith)
+    (λ b. ⊎-elim (within m w (f .0) (f .1 .0)) (⊎-elim (λ d. omega arith) (⊎-elim (λ d. omega arith) (λ d. omega arith))) (b .2))), tt))
+    (λ never. stop (inr (inr (past, there, or-outside m w (λ a b. or-else from to (λ c. or-else to (usedOf x) (λ d.
+    let over : many ≤ most → ⊥ = λ k. never (a, (b, (c, (d, (k, tt))))) in omega arith))))))))
+    (λ gone. none (⊎-elim (λ b. omega arith) (⊎-elim (λ b. omega arith) (λ b. omega arith)), tt)))))
+
+-- bisect_left(v) of an index whose counts hold: 10 alone
+bisect-inside : (x : Index) (v : ℕ) → countsHold x ≡ true → Decided (10 if (LostAt x v) ∷ []) (bisectRule x v)
+unfolding bisectRule
+bisect-inside x v c =
+    rw c (by-eq (lengthOf x) 0
+    (λ e. none (λ d. omega arith, tt))
+    (λ some. by-eq (basesUpTo x v) 0
+    (λ e. none (λ d. omega arith, tt))
+    (λ k. reworded (λ d. (omega arith, omega arith, d)) (λ d. d .2) (search-decided x (basesUpTo x v - 1) v))))
+
+-- bisect_left(v)
+pub bisect-decided : (x : Index) (v : ℕ) → Decided (bisectTable x v) (bisectRule x v)
+unfolding bisectRule
+bisect-decided x v = by-test (countsHold x) (λ c. go-on (λ broken. broken (counts-rule x c)) (bisect-inside x v c)) (λ c. rw c (stop (counts-broken x .1 c)))
+
+-- bisect_range_left(a..b, v)
+pub bisect-range-decided : (x : Index) (a b v : ℕ) → Decided (bisectRangeTable x a b v) (bisectRangeRule x a b v)
+unfolding bisectRangeRule
+bisect-range-decided x a b v = range-first x a b (λ c l h. value-decided (λ k. min b (max a k)) (bisect-inside x v c))
