@@ -19,7 +19,7 @@ pub data Decided {A : Type 0} (t : List Sentence) : Answer A → Type 0 where
   given : {e : ℕ} → Given t e → Decided t (refused e)
 
 -- only one number is given
-one-given : (t : List Sentence) (d e : ℕ) → Given t d → Given t e → d ≡ e
+pub one-given : (t : List Sentence) (d e : ℕ) → Given t d → Given t e → d ≡ e
 one-given [] d e g h = absurd g
 one-given (s ∷ t) d e (inl g) (inl h) = g .1 ∙ sym (h .1)
 one-given (s ∷ t) d e (inl g) (inr h) = absurd (h .0 (g .0))
@@ -27,7 +27,7 @@ one-given (s ∷ t) d e (inr g) (inl h) = absurd (g .0 (h .0))
 one-given (s ∷ t) d e (inr g) (inr h) = one-given t d e (g .1) (h .1)
 
 -- a number is given, so some sentence applies
-some-given : (t : List Sentence) (e : ℕ) → Given t e → None t → ⊥
+pub some-given : (t : List Sentence) (e : ℕ) → Given t e → None t → ⊥
 some-given [] e g n = g
 some-given (s ∷ t) e (inl g) n = n .0 (g .0)
 some-given (s ∷ t) e (inr g) n = some-given t e (g .1) (n .1)
@@ -112,3 +112,7 @@ or-outside m w f = ⊎-elim (λ l. inl (inl l)) (⊎-elim (λ l. inl (inr l)) in
 -- a width within m to 8 is not outside
 pub within : (m w : ℕ) → m ≤ w → w ≤ 8 → Outside m w → ⊥
 within m w l h = ⊎-elim (λ b. omega arith) (λ b. omega arith)
+
+-- what is at most b is b, or what follows from its being below
+pub full-or : (a b : ℕ) {Q : Type 0} → a ≤ b → (a < b → Q) → (a ≡ b) ⊎ Q
+full-or a b l f = by-test (ltb a b) (λ t. inr (f (ltb-true a b t))) (λ t. let h = ltb-false a b t in inl (omega arith))

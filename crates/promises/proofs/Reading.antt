@@ -9,13 +9,13 @@ use native.Mathlib.Nat.{lt-of-not-le}
 use lib.Dec.{ltb, eqb}
 use lib.ListN.{length}
 use borrow.Author.Tests.{lt-ltb, ltb-true, ltb-false, eqb-true, eqb-false}
-use Rattle.rules.specs.Words.{when, unless, Answer, value, refused, andThen, Test, _≤?_, _<?_, when-all}
-use Rattle.rules.specs.Record.{Index, minimumOf, lengthOf, segmentsOf, widthsOf, usedOf, start, base, offset, width, mark, widthTests, countsHold}
-use Rattle.rules.specs.Push.{deltaAt}
-use Rattle.rules.specs.Reading.{damaged, deltaRead, readIn, startsUpTo, getRule, inRange, reads, written, rangeRule, iterRule, Span, span, targetEnd, targetRule, deltaSearch, bisectIn, basesUpTo, bisectRule, bisectRangeRule}
+use Rattle.rules.specs.Words.{when, unless, Answer, value, refused, andThen, Test, _≤?_, _<?_, unless-all}
+use Rattle.rules.specs.Record.{Index, minimumOf, lengthOf, segmentsOf, widthsOf, usedOf, start, base, offset, width, mark, widthTests, countsHold, openRule}
+use Rattle.rules.specs.Push.{deltaAt, lengthRule, sizeRule}
+use Rattle.rules.specs.Reading.{runCountRule, runValueRule, damaged, deltaRead, readIn, startsUpTo, getRule, inRange, reads, written, rangeRule, iterRule, Span, span, targetEnd, targetRule, deltaSearch, bisectIn, basesUpTo, bisectRule, bisectRangeRule}
 use Rattle.laws.proofs.Tests.{by-test, pick-case}
 use Rattle.promises.specs.Sentences.{Sentence, _if_, Given, None}
-use Rattle.promises.specs.Table.{counts, position, deltaPlace, DamagedIn, DamagedAt, getTable, rangeSentences, rangeTable, iterTable, targetTable, LostIn, LostAt, bisectTable, bisectRangeTable}
+use Rattle.promises.specs.Table.{Outside, counts, openTable, countsTable, runCountTable, runValueTable, position, deltaPlace, DamagedIn, DamagedAt, getTable, rangeSentences, rangeTable, iterTable, targetTable, LostIn, LostAt, bisectTable, bisectRangeTable}
 use Rattle.promises.proofs.Deciding.{Decided, none, given, stop, go-on, reworded, then-decided, value-decided, by-lt, by-le, by-eq, by-all, or-else, or-outside, within, before-decided}
 use Rattle.promises.proofs.CountsRule.{counts-rule, counts-broken}
 
@@ -26,6 +26,46 @@ counts-first x {t} f =
     pick-case (Decided (counts x ∷ t)) (countsHold x)
     (λ e. go-on (λ broken. broken (counts-rule x e)) (f e))
     (λ e. stop (counts-broken x .1 e))
+
+-- length
+pub length-decided : (x : Index) → Decided (countsTable x) (lengthRule x)
+unfolding lengthRule
+length-decided x = counts-first x (λ c. none tt)
+
+-- size
+pub size-decided : (x : Index) → Decided (countsTable x) (sizeRule x)
+unfolding sizeRule
+size-decided x = counts-first x (λ c. none tt)
+
+-- a width within m to 8, or a refusal
+pub width-first : {A : Type 0} (e m w : ℕ) {t : List Sentence} {a : Answer A} → (m ≤ w → w ≤ 8 → Decided t a)
+    → Decided (e if (Outside m w) ∷ t) (unless-all (widthTests m w) (refused e) a)
+width-first e m w f =
+    by-all (widthTests m w)
+    (λ g. go-on (within m w (g .0) (g .1 .0)) (f (g .0) (g .1 .0)))
+    (λ never. stop (or-else m w (λ l. let over : w ≤ 8 → ⊥ = λ h. never (l, (h, tt)) in omega arith)))
+
+-- opening an index
+pub open-decided : (m : ℕ) → Decided (openTable m) (openRule m)
+unfolding openRule
+open-decided m = width-first 11 1 m (λ l h. none tt)
+
+-- a delta run's count
+pub run-count-decided : (bytes : List ℕ) (w : ℕ) → Decided (runCountTable w) (runCountRule bytes w)
+unfolding runCountRule
+run-count-decided bytes w = width-first 10 1 w (λ l h. none tt)
+
+-- a delta run's i-th value
+pub run-value-decided : (bytes : List ℕ) (base w i : ℕ) → Decided (runValueTable bytes base w i) (runValueRule bytes base w i)
+unfolding runValueRule
+run-value-decided bytes base w i =
+    let sum = base + deltaAt bytes (i * w) w in
+    width-first 10 1 w (λ l h. by-all (i <? (length bytes / w) ∷ [])
+    (λ f. go-on (λ over. omega arith)
+    (by-all (sum <? (2 ^ 64) ∷ [])
+    (λ g. none (λ over. omega arith, tt))
+    (λ never. let over : sum < 2 ^ 64 → ⊥ = λ b. never (b, tt) in stop (omega arith))))
+    (λ never. let past : i < length bytes / w → ⊥ = λ b. never (b, tt) in stop (omega arith)))
 
 -- position p read in segment s
 read-decided : (x : Index) (s p : ℕ) → Decided (10 if (DamagedIn x s p) ∷ []) (readIn x s p)

@@ -1,2 +1,3 @@
 pub mod Sentences
 pub mod Table
+pub mod Steps
