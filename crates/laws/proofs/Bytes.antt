@@ -3,7 +3,7 @@ use Prim.Native.Nat.{ℕ, zero, suc, _+_, _*_, _/_, _%_, _^_, _≤_, _<_}
 use mathlib.Core.List.{List, [], _∷_}
 use mathlib.Core.Path.{_≡_, refl, _∙_}
 use native.Mathlib.Omega.{arith}
-use native.Mathlib.Nat.{pow-suc, div-lt-iff-lt-mul, mul-le-mul-right, suc-mul}
+use native.Mathlib.Nat.{pow-suc, le-div-iff-mul-le, div-lt-iff-lt-mul, mul-le-mul-right, suc-mul}
 use lib.Dec.{ltb, lit<}
 use lib.ListN.{length, getD, set, length-set}
 use lib.Seq.{sets, getD-set-same, getD-set-other}
@@ -61,3 +61,13 @@ delta-below b u (suc w) at s h =
 -- the delta number i of d, each w bytes wide, ends within them
 pub delta-room : (d w i : ℕ) → i < d → i * w + w ≤ d * w
 delta-room d w i h = rw (suc-mul i w) at (mul-le-mul-right w h)
+
+-- delta number k of w bytes ends within the room where k is below room / w, rounded down
+pub room-fits : (room k w : ℕ) → 0 < w → k < room / w → k * w + w ≤ room
+room-fits room k w pos h = rw (suc-mul k w) at (le-div-iff-mul-le pos .0 h)
+
+-- and past the room where it is not
+pub room-short : (room k w : ℕ) → 0 < w → room / w ≤ k → room < k * w + w
+room-short room k w pos h =
+    let l : room / w < suc k = omega arith in
+    rw (suc-mul k w) at (div-lt-iff-lt-mul pos .0 l)
