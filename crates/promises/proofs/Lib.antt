@@ -4,3 +4,4 @@ pub mod Reading
 pub mod Push
 pub mod Steps
 pub mod Exactly
+pub mod One

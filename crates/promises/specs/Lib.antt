@@ -1,3 +1,4 @@
 pub mod Sentences
 pub mod Table
 pub mod Steps
+pub mod Outcomes
