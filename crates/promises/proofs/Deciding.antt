@@ -36,6 +36,10 @@ some-given (s ∷ t) e (inr g) n = some-given t e (g .1) (n .1)
 pub no-refusal {ℓ} : {A : Type 0} {P : Type ℓ} (v : A) (e : ℕ) → value v ≡ refused e → P
 no-refusal v e q = let z : _≡_ {A = ℕ} 0 1 = cc in absurd (omega arith)
 
+-- a value is one
+pub one-value : {A : Type 0} (v w : A) → value v ≡ value w → v ≡ w
+one-value v w q = cc
+
 -- a refusal has one number
 pub one-number : {A : Type 0} (d e : ℕ) → _≡_ {A = Answer A} (refused d) (refused e) → d ≡ e
 one-number d e q = cc

@@ -5,3 +5,5 @@ pub mod Push
 pub mod Steps
 pub mod Exactly
 pub mod One
+pub mod Stores
+pub mod Stays

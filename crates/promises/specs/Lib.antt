@@ -2,3 +2,4 @@ pub mod Sentences
 pub mod Table
 pub mod Steps
 pub mod Outcomes
+pub mod Kept
