@@ -19,14 +19,17 @@ use Rattle.promises.proofs.Reading.{get-decided}
 done-gave {ℓ} : {P : Type ℓ} (v : ℕ) (c : Cursor) → done ≡ gave v c → P
 done-gave v c q = let z : _≡_ {A = ℕ} 0 1 = cc in absurd (omega arith)
 
-done-stays {ℓ} : {P : Type ℓ} (e : ℕ) (c : Cursor) → done ≡ stays e c → P
+pub done-stays {ℓ} : {P : Type ℓ} (e : ℕ) (c : Cursor) → done ≡ stays e c → P
 done-stays e c q = let z : _≡_ {A = ℕ} 0 1 = cc in absurd (omega arith)
 
-gave-stays {ℓ} : {P : Type ℓ} (v e : ℕ) (c d : Cursor) → gave v c ≡ stays e d → P
+pub gave-stays {ℓ} : {P : Type ℓ} (v e : ℕ) (c d : Cursor) → gave v c ≡ stays e d → P
 gave-stays v e c d q = let z : _≡_ {A = ℕ} 0 1 = cc in absurd (omega arith)
 
 same-stays : (d e : ℕ) (b c : Cursor) → stays d b ≡ stays e c → d ≡ e
 same-stays d e b c q = cc
+
+pub same-cursor : (d e : ℕ) (b c : Cursor) → stays d b ≡ stays e c → c ≡ b
+same-cursor d e b c q = cc
 
 module _ (x : Index) (c : Cursor) where
   -- nothing is left

@@ -4,8 +4,9 @@ use mathlib.Core.List.{List, [], _∷_}
 use mathlib.Core.Logic.{_⊎_, inl, inr, ⊎-elim}
 use mathlib.Core.Path.{_≡_, refl, ap, _∙_}
 use native.Mathlib.Omega.{arith}
+use native.Mathlib.Nat.{add-zero, add-suc, suc-add}
 use lib.ListN.{length, getD, set, length-set}
-use lib.Seq.{sets, length-sets, getD-set-other}
+use lib.Seq.{sets, length-sets, getD-set-same, getD-set-other}
 use Rattle.rules.specs.Push.{deltaBytes}
 use Rattle.laws.proofs.Bytes.{sets-before}
 use Rattle.promises.specs.Kept.{Kept}
@@ -25,6 +26,14 @@ kept-set l at v = record {
 pub sets-after : (vs l : List ℕ) (at i : ℕ) → at + length vs ≤ i → getD (sets l at vs) i 0 ≡ getD l i 0
 sets-after [] l at i h = refl
 sets-after (v ∷ vs) l at i h = sets-after vs (set l at v) (suc at) i (omega arith) ∙ getD-set-other l at i v 0 (λ e. omega arith)
+
+-- and puts its values in order
+pub sets-at : (vs l : List ℕ) (at i : ℕ) → at + length vs ≤ length l → i < length vs → getD (sets l at vs) (at + i) 0 ≡ getD vs i 0
+sets-at [] l at i h k = absurd (omega arith)
+sets-at (v ∷ vs) l at zero h k =
+    rw (add-zero at) (sets-before vs (set l at v) (suc at) at (omega arith) ∙ getD-set-same l at v 0 (omega arith))
+sets-at (v ∷ vs) l at (suc i) h k =
+    rw (add-suc at i, ← suc-add at i) (sets-at vs (set l at v) (suc at) i (rw length-set (omega arith)) (omega arith))
 
 -- entries are stored one after another
 pub kept-sets : (l : List ℕ) (at : ℕ) (vs : List ℕ) → Kept at (at + length vs) l (sets l at vs)

@@ -5,7 +5,9 @@ use mathlib.Core.Logic.{_⊎_}
 use mathlib.Core.Path.{_≡_}
 use lib.ListN.{length, getD}
 use Rattle.rules.specs.Record.{Index, minimumOf, lengthOf, segmentsOf, widthsOf, usedOf, lastOf, base, width}
+use Rattle.rules.specs.Words.{value}
 use Rattle.rules.specs.Push.{withSegment, withFirst, withMore}
+use Rattle.rules.specs.Reading.{getRule}
 use Rattle.promises.specs.Table.{HasWidth, WidthDue, SegmentDue, need}
 
 -- a table and what is left of it: as many entries, and the same ones before `from` and from `to` on
@@ -34,3 +36,9 @@ Does x v y =
     (SegmentDue x v × (y ≡ withSegment x v))
     ⊎ (WidthDue x × (y ≡ withFirst x (v - base x (lastOf x)) (need x v)))
     ⊎ (HasWidth x × (need x v ≤ width x (lastOf x)) × (y ≡ withMore x (v - base x (lastOf x)) (width x (lastOf x))))
+
+-- what get_range(a..b) that answers n leaves of the output: b - a values, each what get answers, and all entries behind them as they were
+pub record Filled (x : Index) (a b : ℕ) (out : List ℕ) (n : ℕ) (left : List ℕ) : Type 0 where
+  pub count : n ≡ b - a
+  pub values : (i : ℕ) → i < b - a → getRule x (a + i) ≡ value (getD left i 0)
+  pub rest : Kept 0 (b - a) out left
