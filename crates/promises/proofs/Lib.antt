@@ -6,4 +6,6 @@ pub mod Steps
 pub mod Exactly
 pub mod One
 pub mod Stores
+pub mod Plans
+pub mod Ranges
 pub mod Stays

@@ -1,6 +1,5 @@
 -- No second answer fits: whatever a promise says of an outcome, the outcome can be had back from it.
 use Prim.Native.Nat.{ℕ}
-use mathlib.Core.Bool.{Bool, true, false}
 use mathlib.Core.List.{List}
 use mathlib.Core.Path.{_≡_, refl, sym, ap, _∙_}
 use lib.Dec.{eqb}
@@ -18,8 +17,8 @@ use Rattle.rules.specs.declared.Letter as code-letter
 use Rattle.rules.specs.declared.Verdict as code-verdict
 use Rattle.rules.specs.Words.{when, Answer, value, refused}
 use Rattle.rules.specs.Record.{Index, openRule}
-use Rattle.rules.specs.Push.{Outcome, outcome, pushRule, lengthRule, sizeRule}
-use Rattle.rules.specs.Reading.{Span, span, Ranged, ranged, Stepped, done, gave, stays, getRule, rangeRule, iterRule, stepRule, runCountRule, runValueRule, targetRule, bisectRule, bisectRangeRule}
+use Rattle.rules.specs.Push.{Outcome, pushRule, lengthRule, sizeRule}
+use Rattle.rules.specs.Reading.{Span, Ranged, Stepped, done, gave, stays, getRule, rangeRule, iterRule, stepRule, runCountRule, runValueRule, targetRule, bisectRule, bisectRangeRule}
 use Rattle.rules.specs.Refusals.{numberOf, openedOf, outcomeOf, answerOf, targetOf, walkOf, stepOf}
 use Rattle.rules.specs.Audit.{Letter, A, B, C, D, E, F, Verdict, wellFormed, flaw, letterOf, verdictOf, auditRule}
 use Rattle.promises.specs.Outcomes.{One, PushLeft, pushSays, RangeLeft, rangeSays}

@@ -1,22 +1,21 @@
 -- Push keeps to its table. What is due is one of three: a segment, a width with its bytes, or bytes alone; no two of them at once.
 use Prim.Native.Nat.{ℕ, _+_, _-_, _≤_, _<_}
-use mathlib.Core.Bool.{Bool, true, false}
+use mathlib.Core.Bool.{true}
 use mathlib.Core.List.{List, [], _∷_}
-use mathlib.Core.Logic.{_⊎_, inl, inr, ⊎-elim}
-use mathlib.Core.Path.{_≡_, refl, sym}
+use mathlib.Core.Logic.{inl, inr, ⊎-elim}
+use mathlib.Core.Path.{_≡_, refl}
 use native.Mathlib.Omega.{arith}
 use lib.ListN.{length}
 use lib.Dec.{ltb, eqb}
 use borrow.Author.Tests.{ltb-true, ltb-false, eqb-true, eqb-false}
-use Rattle.rules.specs.Words.{when, Answer, value, refused, Test, _≤?_, _<?_, Facts, when-all, unless-all}
-use Rattle.rules.specs.Record.{Index, minimumOf, lengthOf, segmentsOf, widthsOf, usedOf, lastOf, base, width, roomOf, segmentLimit, widthTests, countsHold}
-use Rattle.rules.specs.Push.{needOf, Plan, refuse, segment, first, more, segmentPlan, firstPlan, nextPlan, planOf, effect, pushRule}
+use Rattle.rules.specs.Words.{value, _≤?_, _<?_, unless-all}
+use Rattle.rules.specs.Record.{Index, minimumOf, lengthOf, segmentsOf, widthsOf, usedOf, lastOf, base, width, roomOf, widthTests, countsHold}
+use Rattle.rules.specs.Push.{Plan, refuse, first, more, segmentPlan, firstPlan, nextPlan, planOf, effect, pushRule}
 use Rattle.rules.specs.Push as rule
-use Rattle.laws.specs.Orders.{ordersOf}
 use Rattle.laws.proofs.Tests.{pick-case, if-case}
 use Rattle.laws.proofs.Counts.{counts-facts}
 use Rattle.promises.specs.Sentences.{Sentence}
-use Rattle.promises.specs.Table.{Outside, HasWidth, WidthDue, need, SegmentDue, BytesDue, counts, lastDamaged, below, segmentRoom, widthRoom, dataRoom, pushTable}
+use Rattle.promises.specs.Table.{HasWidth, WidthDue, need, SegmentDue, BytesDue, lastDamaged, below, segmentRoom, widthRoom, dataRoom, pushTable}
 use Rattle.promises.proofs.Deciding.{Decided, none, stop, go-on, or-else, within, full-or}
 use Rattle.promises.proofs.CountsRule.{counts-rule, counts-broken}
 

@@ -1,21 +1,20 @@
 -- Every read keeps to its table: the rule's tests one after another, each against the sentence it stands for.
 use Prim.Native.Nat.{ℕ, zero, suc, _+_, _-_, _*_, _/_, _^_, _≤_, _<_, min, max}
-use mathlib.Core.Bool.{Bool, true, false}
+use mathlib.Core.Bool.{true}
 use mathlib.Core.List.{List, [], _∷_, _++_}
-use mathlib.Core.Logic.{_⊎_, inl, inr, ⊎-elim}
-use mathlib.Core.Path.{_≡_, refl, sym}
+use mathlib.Core.Logic.{inl, inr, ⊎-elim}
+use mathlib.Core.Path.{_≡_, refl}
 use native.Mathlib.Omega.{arith}
-use native.Mathlib.Nat.{lt-of-not-le}
 use lib.Dec.{ltb, eqb}
 use lib.ListN.{length}
 use borrow.Author.Tests.{lt-ltb, ltb-true, ltb-false, eqb-true, eqb-false}
-use Rattle.rules.specs.Words.{when, unless, Answer, value, refused, andThen, Test, _≤?_, _<?_, unless-all}
-use Rattle.rules.specs.Record.{Index, minimumOf, lengthOf, segmentsOf, widthsOf, usedOf, start, base, offset, width, mark, widthTests, countsHold, openRule}
+use Rattle.rules.specs.Words.{when, unless, Answer, value, refused, andThen, _≤?_, _<?_, unless-all}
+use Rattle.rules.specs.Record.{Index, minimumOf, lengthOf, widthsOf, usedOf, start, base, offset, width, mark, widthTests, countsHold, openRule}
 use Rattle.rules.specs.Push.{deltaAt, lengthRule, sizeRule}
 use Rattle.rules.specs.Reading.{runCountRule, runValueRule, damaged, deltaRead, readIn, startsUpTo, getRule, inRange, reads, written, rangeRule, iterRule, Span, span, targetEnd, targetRule, deltaSearch, bisectIn, basesUpTo, bisectRule, bisectRangeRule}
 use Rattle.laws.proofs.Tests.{by-test, pick-case}
-use Rattle.promises.specs.Sentences.{Sentence, _if_, Given, None}
-use Rattle.promises.specs.Table.{Outside, counts, openTable, countsTable, runCountTable, runValueTable, position, deltaPlace, DamagedIn, DamagedAt, getTable, rangeSentences, rangeTable, iterTable, targetTable, LostIn, LostAt, bisectTable, bisectRangeTable}
+use Rattle.promises.specs.Sentences.{Sentence, _if_}
+use Rattle.promises.specs.Table.{Outside, counts, openTable, countsTable, runCountTable, runValueTable, position, deltaPlace, ReadDamaged, GetDamaged, getTable, rangeSentences, rangeTable, iterTable, targetTable, SearchDamaged, BisectDamaged, bisectTable, bisectRangeTable}
 use Rattle.promises.proofs.Deciding.{Decided, none, given, stop, go-on, reworded, then-decided, value-decided, by-lt, by-le, by-eq, by-all, or-else, or-outside, within, before-decided}
 use Rattle.promises.proofs.CountsRule.{counts-rule, counts-broken}
 
@@ -68,7 +67,7 @@ run-value-decided bytes base w i =
     (λ never. let past : i < length bytes / w → ⊥ = λ b. never (b, tt) in stop (omega arith)))
 
 -- position p read in segment s
-read-decided : (x : Index) (s p : ℕ) → Decided (10 if (DamagedIn x s p) ∷ []) (readIn x s p)
+read-decided : (x : Index) (s p : ℕ) → Decided (10 if (ReadDamaged x s p) ∷ []) (readIn x s p)
 unfolding readIn deltaRead
 read-decided x s p =
     let w = width x s in let m = minimumOf x in let end = deltaPlace x s p + w in let sum = base x s + deltaAt (x .bytes) (deltaPlace x s p) w in
@@ -84,13 +83,13 @@ read-decided x s p =
     (λ gone. stop (inr (past, inl gone)))))
 
 -- position p, wherever halving finds it
-found-decided : (x : Index) (p : ℕ) → Decided (10 if (DamagedAt x p) ∷ []) (when (eqb (startsUpTo x p) 0) damaged (readIn x (startsUpTo x p - 1) p))
+found-decided : (x : Index) (p : ℕ) → Decided (10 if (GetDamaged x p) ∷ []) (when (eqb (startsUpTo x p) 0) damaged (readIn x (startsUpTo x p - 1) p))
 found-decided x p =
     by-eq (startsUpTo x p) 0 (λ e. stop (inl e))
     (λ e. reworded inr (⊎-elim (λ z. absurd (e z)) (λ d. d)) (read-decided x (startsUpTo x p - 1) p))
 
 -- get(p) inside an index whose counts hold: 10 alone
-get-inside : (x : Index) (p : ℕ) → countsHold x ≡ true → p < lengthOf x → Decided (10 if (DamagedAt x p) ∷ []) (getRule x p)
+get-inside : (x : Index) (p : ℕ) → countsHold x ≡ true → p < lengthOf x → Decided (10 if (GetDamaged x p) ∷ []) (getRule x p)
 unfolding getRule
 get-inside x p c l = rw (c, lt-ltb p (lengthOf x) l) (found-decided x p)
 
@@ -121,7 +120,7 @@ range-first x a b f =
 
 -- the reads of a range: one of them is damaged, or none
 reads-decided : (x : Index) (a n : ℕ) → countsHold x ≡ true → a + n ≤ lengthOf x
-    → Decided (10 if ((p : ℕ) × (a ≤ p) × (p < a + n) × DamagedAt x p) ∷ []) (reads x a n)
+    → Decided (10 if ((p : ℕ) × (a ≤ p) × (p < a + n) × GetDamaged x p) ∷ []) (reads x a n)
 unfolding reads
 reads-decided x a zero c l = none (λ d. omega arith, tt)
 reads-decided x a (suc n) c l =
@@ -151,7 +150,7 @@ unfolding iterRule
 iter-decided x a b = range-first x a b (λ c l h. none tt)
 
 -- the end of a target range: get(p + 1) is damaged where it is read
-end-decided : (x : Index) (p t : ℕ) → countsHold x ≡ true → Decided (10 if ((p + 2 ≤ lengthOf x) × DamagedAt x (p + 1)) ∷ []) (targetEnd x p t)
+end-decided : (x : Index) (p t : ℕ) → countsHold x ≡ true → Decided (10 if ((p + 2 ≤ lengthOf x) × GetDamaged x (p + 1)) ∷ []) (targetEnd x p t)
 unfolding targetEnd
 end-decided x p t c =
     by-lt (lengthOf x) (p + 2)
@@ -167,7 +166,7 @@ target-decided x p t =
     (λ c l. then-decided goes-on (get-inside x p c l) (λ from. value-decided (span from) (end-decided x p t c)))
 
 -- v searched in segment s
-search-decided : (x : Index) (s v : ℕ) → Decided (10 if (LostIn x s v) ∷ []) (bisectIn x s v)
+search-decided : (x : Index) (s v : ℕ) → Decided (10 if (SearchDamaged x s v) ∷ []) (bisectIn x s v)
 unfolding bisectIn deltaSearch
 search-decided x s v =
     let w = width x s in let m = minimumOf x in let from = offset x s in let to = mark x (s + 1) in
@@ -186,7 +185,7 @@ search-decided x s v =
     (λ gone. none (⊎-elim (λ b. omega arith) (⊎-elim (λ b. omega arith) (λ b. omega arith)), tt)))))
 
 -- bisect_left(v) of an index whose counts hold: 10 alone
-bisect-inside : (x : Index) (v : ℕ) → countsHold x ≡ true → Decided (10 if (LostAt x v) ∷ []) (bisectRule x v)
+bisect-inside : (x : Index) (v : ℕ) → countsHold x ≡ true → Decided (10 if (BisectDamaged x v) ∷ []) (bisectRule x v)
 unfolding bisectRule
 bisect-inside x v c =
     rw c (by-eq (lengthOf x) 0

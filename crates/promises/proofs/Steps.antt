@@ -1,14 +1,13 @@
 -- A step is done, or it is what get(next) answers with the cursor beside it.
-use Prim.Native.Nat.{ℕ, _+_, _≤_, _<_}
-use mathlib.Core.Bool.{Bool, true, false}
+use Prim.Native.Nat.{ℕ, _≤_, _<_}
 use mathlib.Core.Path.{_≡_, refl, sym}
 use native.Mathlib.Omega.{arith}
 use lib.Dec.{leb}
 use borrow.Author.Tests.{leb-true, leb-false}
 use Rattle.rules.specs.declared.Cursor.{Cursor}
-use Rattle.rules.specs.Words.{Answer, value, refused}
+use Rattle.rules.specs.Words.{Answer}
 use Rattle.rules.specs.Record.{Index}
-use Rattle.rules.specs.Reading.{Stepped, done, gave, stays, cursor, moved, stepRule}
+use Rattle.rules.specs.Reading.{done, gave, stays, moved, stepRule}
 use Rattle.laws.proofs.Tests.{pick-case}
 use Rattle.promises.specs.Table.{getTable}
 use Rattle.promises.specs.Steps.{StepExactly}

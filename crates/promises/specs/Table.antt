@@ -104,8 +104,8 @@ deltaPlace x s p = offset x s + (p - start x s - 1) * width x s
 
 -- damage of position p in segment s: the start is above p; or p is past the start and there is no width entry, the width is outside m to 8,
 -- the delta bytes don't end within used, or base + delta is above 2^64 - 1
-abbrev pub DamagedIn : Index → ℕ → ℕ → Type 0
-DamagedIn x s p =
+abbrev pub ReadDamaged : Index → ℕ → ℕ → Type 0
+ReadDamaged x s p =
     (p < start x s)
     ⊎ ((start x s < p)
     × ((widthsOf x ≤ s)
@@ -114,12 +114,12 @@ DamagedIn x s p =
     ⊎ (2 ^ 64 - 1 < base x s + deltaAt (x .bytes) (deltaPlace x s p) (width x s))))
 
 -- damage of get(p): k, from halving over starts, is 0; or p is damaged in segment k - 1
-abbrev pub DamagedAt : Index → ℕ → Type 0
-DamagedAt x p = (startsUpTo x p ≡ 0) ⊎ DamagedIn x (startsUpTo x p - 1) p
+abbrev pub GetDamaged : Index → ℕ → Type 0
+GetDamaged x p = (startsUpTo x p ≡ 0) ⊎ ReadDamaged x (startsUpTo x p - 1) p
 
 -- get: 9, then 5, 10
 abbrev pub getTable : Index → ℕ → List Sentence
-getTable x p = counts x ∷ position x p ∷ 10 if (DamagedAt x p) ∷ []
+getTable x p = counts x ∷ position x p ∷ 10 if (GetDamaged x p) ∷ []
 
 -- a range a..b: 9, then 6 RangeEnd: b exceeds length, then 7 Reversed: a exceeds b
 abbrev pub rangeSentences : Index → ℕ → ℕ → List Sentence
@@ -129,7 +129,7 @@ rangeSentences x a b = counts x ∷ 6 if (lengthOf x < b) ∷ 7 if (b < a) ∷ [
 abbrev pub rangeTable : Index → ℕ → ℕ → List ℕ → List Sentence
 rangeTable x a b out =
     rangeSentences x a b
-    ++ (8 if (length out < b - a) ∷ 10 if ((p : ℕ) × (a ≤ p) × (p < b) × DamagedAt x p) ∷ [])
+    ++ (8 if (length out < b - a) ∷ 10 if ((p : ℕ) × (a ≤ p) × (p < b) × GetDamaged x p) ∷ [])
 
 -- opening a cursor: 9, 6, 7
 abbrev pub iterTable : Index → ℕ → ℕ → List Sentence
@@ -137,12 +137,12 @@ iterTable x a b = rangeSentences x a b
 
 -- target_range: 9, then 5, 10: get(p) is damaged, or p + 2 is at most length and get(p + 1) is
 abbrev pub targetTable : Index → ℕ → List Sentence
-targetTable x p = counts x ∷ position x p ∷ 10 if (DamagedAt x p ⊎ ((p + 2 ≤ lengthOf x) × DamagedAt x (p + 1))) ∷ []
+targetTable x p = counts x ∷ position x p ∷ 10 if (GetDamaged x p ⊎ ((p + 2 ≤ lengthOf x) × GetDamaged x (p + 1))) ∷ []
 
 -- damage of v searched in segment s: its start is at or past length; its base is above v; or its base is below v, it has a width entry, and
 -- the width is outside m to 8, not offset <= end <= used, or the deltas are more than length - start - 1
-abbrev pub LostIn : Index → ℕ → ℕ → Type 0
-LostIn x s v =
+abbrev pub SearchDamaged : Index → ℕ → ℕ → Type 0
+SearchDamaged x s v =
     (lengthOf x ≤ start x s)
     ⊎ (v < base x s)
     ⊎ ((base x s < v) × (s < widthsOf x)
@@ -152,16 +152,16 @@ LostIn x s v =
     ⊎ (lengthOf x - start x s - 1 < (mark x (s + 1) - offset x s) / width x s)))
 
 -- damage of bisect_left(v): length is not 0, k, from halving over bases, is not 0, and v is damaged in segment k - 1
-abbrev pub LostAt : Index → ℕ → Type 0
-LostAt x v = (0 < lengthOf x) × (0 < basesUpTo x v) × LostIn x (basesUpTo x v - 1) v
+abbrev pub BisectDamaged : Index → ℕ → Type 0
+BisectDamaged x v = (0 < lengthOf x) × (0 < basesUpTo x v) × SearchDamaged x (basesUpTo x v - 1) v
 
 -- bisect_left: 9, then 10
 abbrev pub bisectTable : Index → ℕ → List Sentence
-bisectTable x v = counts x ∷ 10 if (LostAt x v) ∷ []
+bisectTable x v = counts x ∷ 10 if (BisectDamaged x v) ∷ []
 
 -- bisect_range_left: 9, 6, 7, then 10
 abbrev pub bisectRangeTable : Index → ℕ → ℕ → ℕ → List Sentence
-bisectRangeTable x a b v = rangeSentences x a b ++ (10 if (LostAt x v) ∷ [])
+bisectRangeTable x a b v = rangeSentences x a b ++ (10 if (BisectDamaged x v) ∷ [])
 
 -- a delta run's count: 10: a width outside 1 to 8
 abbrev pub runCountTable : ℕ → List Sentence
