@@ -9,3 +9,4 @@ pub mod Stores
 pub mod Plans
 pub mod Ranges
 pub mod Stays
+pub mod Examples

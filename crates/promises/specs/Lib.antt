@@ -3,3 +3,4 @@ pub mod Table
 pub mod Steps
 pub mod Outcomes
 pub mod Kept
+pub mod Examples
