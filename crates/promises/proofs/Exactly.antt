@@ -1,17 +1,21 @@
 -- Exactly when: every entry point gives the refusal that its table gives, and a value where none applies. At any index, any tables, any numbers.
 use Prim.Native.Nat.{ℕ}
 use mathlib.Core.List.{List}
+use mathlib.Core.Logic.{_↔_}
+use mathlib.Core.Path.{_≡_}
 use Rattle.rules.specs.declared.Cursor.{Cursor}
 use Rattle.rules.specs.Record.{Index, openRule}
 use Rattle.rules.specs.Push.{pushRule, lengthRule, sizeRule}
 use Rattle.rules.specs.Reading.{getRule, rangeRule, iterRule, stepRule, runCountRule, runValueRule, targetRule, bisectRule, bisectRangeRule}
+use Rattle.rules.specs.Audit.{A, flaw, auditRule}
 use Rattle.promises.specs.Sentences.{Exactly}
-use Rattle.promises.specs.Table.{openTable, pushTable, countsTable, getTable, rangeTable, iterTable, targetTable, bisectTable, bisectRangeTable, runCountTable, runValueTable}
+use Rattle.promises.specs.Table.{CountsRule, openTable, pushTable, countsTable, getTable, rangeTable, iterTable, targetTable, bisectTable, bisectRangeTable, runCountTable, runValueTable}
 use Rattle.promises.specs.Steps.{StepExactly}
 use Rattle.promises.proofs.Deciding.{exactly}
 use Rattle.promises.proofs.Reading.{get-decided, range-decided, iter-decided, target-decided, bisect-decided, bisect-range-decided, open-decided, length-decided, size-decided, run-count-decided, run-value-decided}
 use Rattle.promises.proofs.Push.{push-decided}
 use Rattle.promises.proofs.Steps.{step-decided}
+use Rattle.promises.proofs.Audit.{audit-counts}
 
 -- opening: 11
 pub open-exactly : (m : ℕ) → Exactly (openTable m) (openRule m)
@@ -64,3 +68,7 @@ bisect-exactly x v = exactly (bisect-decided x v)
 -- bisect_range_left: 9, then 6, 7, 10
 pub bisect-range-exactly : (x : Index) (a b v : ℕ) → Exactly (bisectRangeTable x a b v) (bisectRangeRule x a b v)
 bisect-range-exactly x a b v = exactly (bisect-range-decided x a b v)
+
+-- the audit answers A instead of 9, with segment 0
+pub audit-exactly : (x : Index) (k : ℕ) → (auditRule x ≡ flaw A k) ↔ ((k ≡ 0) × (CountsRule x → ⊥))
+audit-exactly x k = audit-counts x k
