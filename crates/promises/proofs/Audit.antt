@@ -1,10 +1,9 @@
 -- The audit answers A exactly when the counts rule is broken: no other rule has that letter.
 use Prim.Native.Nat.{ℕ, zero, suc}
-use mathlib.Core.Bool.{Bool, true, false}
+use mathlib.Core.Bool.{true, false}
 use mathlib.Core.List.{List, [], _∷_}
 use mathlib.Core.Logic.{_↔_}
-use mathlib.Core.Path.{_≡_, refl, sym, subst}
-use native.Mathlib.Omega.{arith}
+use mathlib.Core.Path.{_≡_, subst}
 use Rattle.rules.specs.Words.{when-all}
 use Rattle.rules.specs.Record.{Index, segmentsOf, countsHold}
 use Rattle.rules.specs.Audit.{Letter, A, B, C, D, E, F, Verdict, wellFormed, flaw, Rule, rulesOf, firstFlaw, orElse, auditFrom, auditRule}

@@ -22,9 +22,9 @@ counts-rule x e =
       empty = omega arith;
       zeros = omega arith;
       otherwise = λ s.
-        by-test (leb (segmentsOf x) (widthsOf x))
-        (λ t. let l = leb-true (segmentsOf x) (widthsOf x) t in inl (omega arith))
-        (λ t. let l = leb-false (segmentsOf x) (widthsOf x) t in inr (omega arith));
+          by-test (leb (segmentsOf x) (widthsOf x))
+          (λ t. let l = leb-true (segmentsOf x) (widthsOf x) t in inl (omega arith))
+          (λ t. let l = leb-false (segmentsOf x) (widthsOf x) t in inr (omega arith));
       total = omega arith;
     }
 
@@ -42,6 +42,7 @@ counts-hold x = (rule-counts x, counts-rule x)
 
 -- the counts rule is broken exactly when its test fails
 pub counts-broken : (x : Index) → (CountsRule x → ⊥) ↔ (countsHold x ≡ false)
-counts-broken x =
-    (λ never. by-test (countsHold x) (λ t. absurd (never (counts-rule x t))) (λ t. t),
-    λ f r. false-not-true (countsHold x) (rule-counts x r) f)
+counts-broken x = (
+  λ never. by-test (countsHold x) (λ t. absurd (never (counts-rule x t))) (λ t. t),
+  λ f r. false-not-true (countsHold x) (rule-counts x r) f,
+)

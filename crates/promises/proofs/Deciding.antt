@@ -63,9 +63,13 @@ pub go-on : {A : Type 0} {s : Sentence} {t : List Sentence} {a : Answer A} → (
 go-on never (none n) = none (never, n)
 go-on never (given g) = given (inr (never, g))
 
+-- the only sentence does not apply
+pub pass : {A : Type 0} {s : Sentence} {v : A} → (s .says → ⊥) → Decided (s ∷ []) (value v)
+pass never = none (never, tt)
+
 -- the same fact in other words
 pub reworded : {A : Type 0} {e : ℕ} {S T : Type 0} {a : Answer A} → (S → T) → (T → S) → Decided (e if S ∷ []) a → Decided (e if T ∷ []) a
-reworded f g (none n) = none (λ t. n .0 (g t), tt)
+reworded f g (none n) = pass (λ t. n .0 (g t))
 reworded f g (given (inl d)) = given (inl (f (d .0), d .1))
 reworded f g (given (inr d)) = absurd (d .1)
 
@@ -84,7 +88,7 @@ value-decided f (given g) = given g
 -- a value in front of further ones: one of the two applies
 pub before-decided : {e : ℕ} {S T : Type 0} {a : Answer ℕ} {b : Answer (List ℕ)}
     → Decided (e if S ∷ []) a → Decided (e if T ∷ []) b → Decided (e if (S ⊎ T) ∷ []) (before a b)
-before-decided (none n) (none m) = none (⊎-elim (n .0) (m .0), tt)
+before-decided (none n) (none m) = pass (⊎-elim (n .0) (m .0))
 before-decided (none n) (given (inl d)) = given (inl (inr (d .0), d .1))
 before-decided (none n) (given (inr d)) = absurd (d .1)
 before-decided (given (inl d)) k = given (inl (inl (d .0), d .1))

@@ -2,7 +2,7 @@
 use mathlib.Core.List.{map}
 use mathlib.Core.Path.{_≡_, refl}
 use lib.Count.{leadingZeros}
-use Rattle.rules.specs.Words.{allBelow, when-all}
+use Rattle.rules.specs.Words.{when-all}
 use Rattle.rules.specs.Record.{countsHold, openRule}
 use Rattle.rules.specs.Push.{deltaAt, segmentPlan, firstPlan, nextPlan, planOf, pushRule, lengthRule, sizeRule}
 use Rattle.rules.specs.Reading.{halveFrom, halve, deltaRead, readIn, startsUpTo, getRule, reads, rangeRule, iterRule, stepRule, runCountRule, runValueRule, targetEnd, targetRule, deltaSearch, bisectIn, basesUpTo, bisectRule, bisectRangeRule}

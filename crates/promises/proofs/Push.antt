@@ -16,7 +16,7 @@ use Rattle.laws.proofs.Tests.{pick-case, if-case}
 use Rattle.laws.proofs.Counts.{counts-facts}
 use Rattle.promises.specs.Sentences.{Sentence}
 use Rattle.promises.specs.Table.{HasWidth, WidthDue, need, SegmentDue, BytesDue, lastDamaged, below, segmentRoom, widthRoom, dataRoom, pushTable}
-use Rattle.promises.proofs.Deciding.{Decided, none, stop, go-on, or-else, within, full-or}
+use Rattle.promises.proofs.Deciding.{Decided, pass, stop, go-on, or-else, within, full-or}
 use Rattle.promises.proofs.CountsRule.{counts-rule, counts-broken}
 
 -- push's sentences from 2, from 1 and from 10 on
@@ -51,7 +51,7 @@ module _ (x : Index) (v : ℕ) where
       → Planned x v (dataRoom x v ∷ []) (unless-all (rule.dataRoom (x .state) (roomOf x) n) (refuse 4) p)
   bytes-decided n p due e =
       if-case (Planned x v (dataRoom x v ∷ [])) (rule.dataRoom (x .state) (roomOf x) n)
-      (λ f. rw e (none (λ d. let q = one-due (d .0) n (d .1) due in ⊎-elim (λ over. omega arith) (λ over. omega arith) (d .2), tt)))
+      (λ f. rw e (pass (λ d. let q = one-due (d .0) n (d .1) due in ⊎-elim (λ over. omega arith) (λ over. omega arith) (d .2))))
       (λ never. stop (n, due, or-else (usedOf x + n) (length (x .bytes)) (λ a. let over : usedOf x + n ≤ 4294967295 → ⊥ = λ b. never (a, (b, tt)) in omega arith)))
 
   -- a new segment is due: 2 alone can be given
@@ -63,9 +63,12 @@ module _ (x : Index) (v : ℕ) where
       if-case (Planned x v (from2 x v)) (rule.segmentRoom (x .state) (roomOf x))
       (λ g. go-on (λ d. ⊎-elim (λ q. omega arith) (⊎-elim (λ q. omega arith) (⊎-elim (λ q. omega arith) (λ q. omega arith))) (d .1))
       (go-on (λ d. ⊎-elim (λ q. omega arith) (λ q. omega arith) due)
-      (none (λ d. let q = one-due (d .0) 0 (d .1) (inl (due, refl)) in ⊎-elim (λ over. omega arith) (λ over. omega arith) (d .2), tt))))
-      (λ never. stop (due, full-or s 65535 (omega arith) (λ a. full-or s (length (x .starts)) (omega arith) (λ b. full-or s (length (x .bases)) (omega arith) (λ d.
-      let full : s < length (x .offsets) → ⊥ = λ l. never (a, (b, (d, (l, tt)))) in omega arith)))))
+      (pass (λ d. let q = one-due (d .0) 0 (d .1) (inl (due, refl)) in ⊎-elim (λ over. omega arith) (λ over. omega arith) (d .2)))))
+      (λ never. stop (
+        due,
+        full-or s 65535 (omega arith) (λ a. full-or s (length (x .starts)) (omega arith) (λ b. full-or s (length (x .bases)) (omega arith) (λ d.
+            let full : s < length (x .offsets) → ⊥ = λ l. never (a, (b, (d, (l, tt)))) in omega arith))),
+      ))
 
   -- the last segment has no width: 1, 3 or 4
   first-decided : countsHold x ≡ true → WidthDue x

@@ -2,7 +2,7 @@
 use Prim.Native.Nat.{ℕ, zero, suc, _+_, _-_, _*_, _/_, _^_, _≤_, _<_, min, max}
 use mathlib.Core.Bool.{true}
 use mathlib.Core.List.{List, [], _∷_, _++_}
-use mathlib.Core.Logic.{inl, inr, ⊎-elim}
+use mathlib.Core.Logic.{_⊎_, inl, inr, ⊎-elim}
 use mathlib.Core.Path.{_≡_, refl}
 use native.Mathlib.Omega.{arith}
 use lib.Dec.{ltb, eqb}
@@ -14,8 +14,8 @@ use Rattle.rules.specs.Push.{deltaAt, lengthRule, sizeRule}
 use Rattle.rules.specs.Reading.{runCountRule, runValueRule, damaged, deltaRead, readIn, startsUpTo, getRule, inRange, reads, written, rangeRule, iterRule, Span, span, targetEnd, targetRule, deltaSearch, bisectIn, basesUpTo, bisectRule, bisectRangeRule}
 use Rattle.laws.proofs.Tests.{by-test, pick-case}
 use Rattle.promises.specs.Sentences.{Sentence, _if_}
-use Rattle.promises.specs.Table.{Outside, counts, openTable, countsTable, runCountTable, runValueTable, position, deltaPlace, ReadDamaged, GetDamaged, getTable, rangeSentences, rangeTable, iterTable, targetTable, SearchDamaged, BisectDamaged, bisectTable, bisectRangeTable}
-use Rattle.promises.proofs.Deciding.{Decided, none, given, stop, go-on, reworded, then-decided, value-decided, by-lt, by-le, by-eq, by-all, or-else, or-outside, within, before-decided}
+use Rattle.promises.specs.Table.{Outside, counts, openTable, countsTable, runCountTable, runValueTable, position, ReadDamaged, GetDamaged, getTable, rangeSentences, rangeTable, iterTable, targetTable, SearchDamaged, BisectDamaged, bisectTable, bisectRangeTable}
+use Rattle.promises.proofs.Deciding.{Decided, none, pass, given, stop, go-on, reworded, then-decided, value-decided, by-lt, by-le, by-eq, by-all, or-else, or-outside, within, before-decided}
 use Rattle.promises.proofs.CountsRule.{counts-rule, counts-broken}
 
 -- 9 comes first
@@ -62,24 +62,34 @@ run-value-decided bytes base w i =
     width-first 10 1 w (λ l h. by-all (i <? (length bytes / w) ∷ [])
     (λ f. go-on (λ over. omega arith)
     (by-all (sum <? (2 ^ 64) ∷ [])
-    (λ g. none (λ over. omega arith, tt))
+    (λ g. pass (λ over. omega arith))
     (λ never. let over : sum < 2 ^ 64 → ⊥ = λ b. never (b, tt) in stop (omega arith))))
     (λ never. let past : i < length bytes / w → ⊥ = λ b. never (b, tt) in stop (omega arith)))
 
+-- a delta added to its base: the width is outside m to 8, the bytes don't end within used, or the sum is above 2^64 - 1
+delta-decided : (m used : ℕ) (bytes : List ℕ) (base offset i w : ℕ)
+    → Decided (10 if (Outside m w ⊎ (used < offset + i * w + w) ⊎ (2 ^ 64 - 1 < base + deltaAt bytes (offset + i * w) w)) ∷ [])
+    (deltaRead m used bytes base offset i w)
+unfolding deltaRead
+delta-decided m used bytes base offset i w =
+    let end = offset + i * w + w in let sum = base + deltaAt bytes (offset + i * w) w in
+    by-all (m ≤? w ∷ w ≤? 8 ∷ end ≤? used ∷ sum <? (2 ^ 64) ∷ [])
+    (λ f. pass (⊎-elim (within m w (f .0) (f .1 .0)) (⊎-elim (λ c. omega arith) (λ c. omega arith))))
+    (λ never. stop (or-outside m w (λ a b. or-else end used (λ c.
+    let over : sum < 2 ^ 64 → ⊥ = λ d. never (a, (b, (c, (d, tt)))) in omega arith))))
+
 -- position p read in segment s
 read-decided : (x : Index) (s p : ℕ) → Decided (10 if (ReadDamaged x s p) ∷ []) (readIn x s p)
-unfolding readIn deltaRead
+unfolding readIn
 read-decided x s p =
-    let w = width x s in let m = minimumOf x in let end = deltaPlace x s p + w in let sum = base x s + deltaAt (x .bytes) (deltaPlace x s p) w in
     by-lt p (start x s) (λ l. stop (inl l))
-    (λ l. by-eq p (start x s) (λ e. none (⊎-elim (λ b. omega arith) (λ b. omega arith), tt))
+    (λ l. by-eq p (start x s) (λ e. pass (⊎-elim (λ b. omega arith) (λ b. omega arith)))
     (λ e. let past : start x s < p = omega arith in
     by-lt s (widthsOf x)
-    (λ there. by-all (m ≤? w ∷ w ≤? 8 ∷ end ≤? (usedOf x) ∷ sum <? (2 ^ 64) ∷ [])
-    (λ f. none (⊎-elim (λ b. omega arith)
-    (λ b. ⊎-elim (λ c. omega arith) (⊎-elim (within m w (f .0) (f .1 .0)) (⊎-elim (λ c. omega arith) (λ c. omega arith))) (b .1)), tt))
-    (λ never. stop (inr (past, inr (or-outside m w (λ a b. or-else end (usedOf x) (λ c.
-    let over : sum < 2 ^ 64 → ⊥ = λ d. never (a, (b, (c, (d, tt)))) in omega arith)))))))
+    (λ there. reworded
+    (λ d. inr (past, inr d))
+    (⊎-elim (λ b. absurd (omega arith)) (λ b. ⊎-elim (λ c. absurd (omega arith)) (λ d. d) (b .1)))
+    (delta-decided (minimumOf x) (usedOf x) (x .bytes) (base x s) (offset x s) (p - start x s - 1) (width x s)))
     (λ gone. stop (inr (past, inl gone)))))
 
 -- position p, wherever halving finds it
@@ -122,7 +132,7 @@ range-first x a b f =
 reads-decided : (x : Index) (a n : ℕ) → countsHold x ≡ true → a + n ≤ lengthOf x
     → Decided (10 if ((p : ℕ) × (a ≤ p) × (p < a + n) × GetDamaged x p) ∷ []) (reads x a n)
 unfolding reads
-reads-decided x a zero c l = none (λ d. omega arith, tt)
+reads-decided x a zero c l = pass (λ d. omega arith)
 reads-decided x a (suc n) c l =
     reworded
     (⊎-elim (λ d. (a, omega arith, omega arith, d)) (λ d. (d .0, omega arith, omega arith, d .3)))
@@ -154,7 +164,7 @@ end-decided : (x : Index) (p t : ℕ) → countsHold x ≡ true → Decided (10 
 unfolding targetEnd
 end-decided x p t c =
     by-lt (lengthOf x) (p + 2)
-    (λ l. none (λ d. omega arith, tt))
+    (λ l. pass (λ d. omega arith))
     (λ l. value-decided (λ next. min next t) (reworded (λ d. (l, d)) (λ d. d .1) (get-inside x (p + 1) c (omega arith))))
 
 -- target_range(p, t)
@@ -165,33 +175,41 @@ target-decided x p t =
     position-first x p (λ a. andThen a goes-on) (λ e. refl)
     (λ c l. then-decided goes-on (get-inside x p c l) (λ from. value-decided (span from) (end-decided x p t c)))
 
+-- deltas from `from` to `to` searched: the width is outside m to 8, not from <= to <= used, or there are more than length - start - 1
+deltas-decided : (m used len : ℕ) (bytes : List ℕ) (start from to gap w : ℕ)
+    → Decided (10 if (Outside m w ⊎ (to < from) ⊎ (used < to) ⊎ (len - start - 1 < (to - from) / w)) ∷ [])
+    (deltaSearch m used len bytes start from to gap w)
+unfolding deltaSearch
+deltas-decided m used len bytes start from to gap w =
+    let many = (to - from) / w in let most = len - start - 1 in
+    by-all (m ≤? w ∷ w ≤? 8 ∷ from ≤? to ∷ to ≤? used ∷ many ≤? most ∷ [])
+    (λ f. pass (⊎-elim (within m w (f .0) (f .1 .0)) (⊎-elim (λ c. omega arith) (⊎-elim (λ c. omega arith) (λ c. omega arith)))))
+    (λ never. stop (or-outside m w (λ a b. or-else from to (λ c. or-else to used (λ d.
+    let over : many ≤ most → ⊥ = λ k. never (a, (b, (c, (d, (k, tt))))) in omega arith)))))
+
 -- v searched in segment s
 search-decided : (x : Index) (s v : ℕ) → Decided (10 if (SearchDamaged x s v) ∷ []) (bisectIn x s v)
-unfolding bisectIn deltaSearch
+unfolding bisectIn
 search-decided x s v =
-    let w = width x s in let m = minimumOf x in let from = offset x s in let to = mark x (s + 1) in
-    let many = (to - from) / w in let most = lengthOf x - start x s - 1 in
     by-le (lengthOf x) (start x s) (λ l. stop (inl l))
     (λ l. by-eq (base x s) v
-    (λ e. none (⊎-elim (λ b. omega arith) (⊎-elim (λ b. omega arith) (λ b. omega arith)), tt))
+    (λ e. pass (⊎-elim (λ b. omega arith) (⊎-elim (λ b. omega arith) (λ b. omega arith))))
     (λ e. by-lt v (base x s) (λ over. stop (inr (inl over)))
-    (λ h. let past : base x s < v = omega arith in
-    by-lt s (widthsOf x)
-    (λ there. by-all (m ≤? w ∷ w ≤? 8 ∷ from ≤? to ∷ to ≤? (usedOf x) ∷ many ≤? most ∷ [])
-    (λ f. none (⊎-elim (λ b. omega arith) (⊎-elim (λ b. omega arith)
-    (λ b. ⊎-elim (within m w (f .0) (f .1 .0)) (⊎-elim (λ d. omega arith) (⊎-elim (λ d. omega arith) (λ d. omega arith))) (b .2))), tt))
-    (λ never. stop (inr (inr (past, there, or-outside m w (λ a b. or-else from to (λ c. or-else to (usedOf x) (λ d.
-    let over : many ≤ most → ⊥ = λ k. never (a, (b, (c, (d, (k, tt))))) in omega arith))))))))
-    (λ gone. none (⊎-elim (λ b. omega arith) (⊎-elim (λ b. omega arith) (λ b. omega arith)), tt)))))
+    (λ h. by-lt s (widthsOf x)
+    (λ there. reworded
+    (λ d. inr (inr (omega arith, there, d)))
+    (⊎-elim (λ b. absurd (omega arith)) (⊎-elim (λ b. absurd (omega arith)) (λ b. b .2)))
+    (deltas-decided (minimumOf x) (usedOf x) (lengthOf x) (x .bytes) (start x s) (offset x s) (mark x (s + 1)) (v - base x s) (width x s)))
+    (λ gone. pass (⊎-elim (λ b. omega arith) (⊎-elim (λ b. omega arith) (λ b. omega arith)))))))
 
 -- bisect_left(v) of an index whose counts hold: 10 alone
 bisect-inside : (x : Index) (v : ℕ) → countsHold x ≡ true → Decided (10 if (BisectDamaged x v) ∷ []) (bisectRule x v)
 unfolding bisectRule
 bisect-inside x v c =
     rw c (by-eq (lengthOf x) 0
-    (λ e. none (λ d. omega arith, tt))
+    (λ e. pass (λ d. omega arith))
     (λ some. by-eq (basesUpTo x v) 0
-    (λ e. none (λ d. omega arith, tt))
+    (λ e. pass (λ d. omega arith))
     (λ k. reworded (λ d. (omega arith, omega arith, d)) (λ d. d .2) (search-decided x (basesUpTo x v - 1) v))))
 
 -- bisect_left(v)

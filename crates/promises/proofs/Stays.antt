@@ -92,8 +92,8 @@ range-fills x a b out n q = by-answer (valuesOf x a b out) refl q
         record {
           count = sym (one-value (length vs) n q) ∙ many;
           values = λ i l.
-            let e : getD (sets out 0 vs) i 0 ≡ getD vs i 0 = rw (zero-add i) at (sets-at vs out 0 i (omega arith) (omega arith)) in
-            rw e (reads-entry x a (b - a) vs (r .1) i l);
+              let e : getD (sets out 0 vs) i 0 ≡ getD vs i 0 = rw (zero-add i) at (sets-at vs out 0 i (omega arith) (omega arith)) in
+              rw e (reads-entry x a (b - a) vs (r .1) i l);
           rest = rw (zero-add (length vs), many) at (kept-sets out 0 vs);
         }
 
