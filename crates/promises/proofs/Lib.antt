@@ -10,4 +10,5 @@ pub mod Stores
 pub mod Plans
 pub mod Ranges
 pub mod Stays
+pub mod Answers
 pub mod Examples

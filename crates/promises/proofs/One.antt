@@ -78,7 +78,7 @@ same-letter code-letter.Letter.E = refl
 same-letter code-letter.Letter.F = refl
 
 -- opening an index
-one-opened : (rule : Answer State) → One openedOf rule
+pub one-opened : (rule : Answer State) → One openedOf rule
 one-opened rule = one openedOf (either Opened.Fresh Opened.Refused) rule same
   where
     same : (c : Opened) → either Opened.Fresh Opened.Refused (openedOf c) ≡ c
@@ -86,7 +86,7 @@ one-opened rule = one openedOf (either Opened.Fresh Opened.Refused) rule same
     same (Opened.Refused e) = rw (same-refusal e)
 
 -- a push: its answer, its state and every entry of the five tables
-one-pushed : (rule : Outcome) → One pushSays rule
+pub one-pushed : (rule : Outcome) → One pushSays rule
 one-pushed rule = one pushSays back rule (λ c. same (c .answer) (c .starts) (c .bases) (c .offsets) (c .widths) (c .bytes))
   where
     back : Outcome → PushLeft
@@ -104,18 +104,18 @@ one-pushed rule = one pushSays back rule (λ c. same (c .answer) (c .starts) (c 
     same (Pushed.Refused st e) s b o w d = rw (same-refusal e)
 
 -- a call for one number
-one-got : (rule : Answer ℕ) → One answerOf rule
+pub one-got : (rule : Answer ℕ) → One answerOf rule
 one-got rule = one answerOf (either Got.Value Got.Refused) rule same-got
 
 -- get_range: its answer and every entry of the output
-one-ranged : (rule : Ranged) → One rangeSays rule
+pub one-ranged : (rule : Ranged) → One rangeSays rule
 one-ranged rule = one rangeSays back rule (λ c. rw (same-got (c .answer)))
   where
     back : Ranged → RangeLeft
     back r = record { answer = either Got.Value Got.Refused (r .answer); out = r .left }
 
 -- target_range
-one-targeted : (rule : Answer Span) → One targetOf rule
+pub one-targeted : (rule : Answer Span) → One targetOf rule
 one-targeted rule = one targetOf back rule same
   where
     back : Answer Span → Target
@@ -126,7 +126,7 @@ one-targeted rule = one targetOf back rule same
     same (Target.Refused e) = rw (same-refusal e)
 
 -- opening a walk
-one-walk : (rule : Answer Cursor) → One walkOf rule
+pub one-walk : (rule : Answer Cursor) → One walkOf rule
 one-walk rule = one walkOf (either Walk.From Walk.Refused) rule same
   where
     same : (c : Walk) → either Walk.From Walk.Refused (walkOf c) ≡ c
@@ -134,7 +134,7 @@ one-walk rule = one walkOf (either Walk.From Walk.Refused) rule same
     same (Walk.Refused e) = rw (same-refusal e)
 
 -- a step: its answer and its cursor
-one-stepped : (rule : Stepped) → One stepOf rule
+pub one-stepped : (rule : Stepped) → One stepOf rule
 one-stepped rule = one stepOf back rule same
   where
     back : Stepped → Step
@@ -148,7 +148,7 @@ one-stepped rule = one stepOf back rule same
     same (Step.Refused c e) = rw (same-refusal e)
 
 -- the audit: well formed, or a letter and a segment
-one-judged : (rule : Verdict) → One verdictOf rule
+pub one-judged : (rule : Verdict) → One verdictOf rule
 one-judged rule = one verdictOf back rule same
   where
     back : Verdict → code-verdict.Verdict

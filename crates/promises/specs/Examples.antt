@@ -45,6 +45,18 @@ single widths bytes = index (state 1 1 1 0 0) (0 ∷ []) (10 ∷ []) (0 ∷ []) 
 abbrev pub lame : Index
 lame = two (9 ∷ []) (1 ∷ [])
 
+-- two values, the second in two bytes, and room for one byte more
+abbrev pub wide : Index
+wide = index (state 1 2 1 1 2) (0 ∷ []) (10 ∷ []) (0 ∷ []) (2 ∷ []) (0 ∷ 1 ∷ 7 ∷ [])
+
+-- the largest value, and this delta on top of it
+abbrev pub topmost : ℕ → Index
+topmost delta = index (state 1 2 1 1 1) (0 ∷ []) ((2 ^ 64 - 1) ∷ []) (0 ∷ []) (1 ∷ []) (delta ∷ [])
+
+-- one value, and a start at length
+abbrev pub late : Index
+late = index (state 1 1 1 0 0) (1 ∷ []) (10 ∷ []) (0 ∷ []) [] []
+
 -- each entry point's sentences in order, then what is given where two apply
 unfoldable pub examples : List Example
 examples =
@@ -56,11 +68,13 @@ examples =
     ∷ refusal (pushRule (single [] (7 ∷ [])) 11 .answer) gives 3
     ∷ refusal (pushRule (single (7 ∷ []) []) 11 .answer) gives 4
     ∷ refusal (pushRule (two (1 ∷ []) (1 ∷ [])) 11 .answer) gives 4
+    ∷ refusal (pushRule wide 11 .answer) gives 4
     ∷ refusal (pushRule lame 9 .answer) gives 10
     ∷ refusal (pushRule (single [] []) 9 .answer) gives 1
     ∷ refusal (pushRule (single [] []) 11 .answer) gives 3
-    ∷ refusal (lengthRule broken) gives 9 ∷ refusal (sizeRule broken) gives 9
+    ∷ refusal (lengthRule broken) gives 9 ∷ refusal (sizeRule broken) gives 9 ∷ refusal (lengthRule (single [] [])) gives 0
     ∷ refusal (getRule broken 0) gives 9 ∷ refusal (getRule w9 5) gives 5 ∷ refusal (getRule lame 1) gives 10
+    ∷ refusal (getRule (topmost 1) 1) gives 10 ∷ refusal (getRule (topmost 0) 1) gives 0
     ∷ refusal (getRule broken 5) gives 9
     ∷ refusal (rangeRule broken 0 1 (7 ∷ []) .answer) gives 9
     ∷ refusal (rangeRule w9 0 6 (7 ∷ []) .answer) gives 6
@@ -81,7 +95,7 @@ examples =
     ∷ refusal (runValueRule (7 ∷ []) 0 9 1) gives 10
     ∷ refusal (targetRule broken 0 600) gives 9 ∷ refusal (targetRule w9 5 600) gives 5
     ∷ refusal (targetRule lame 1 600) gives 10 ∷ refusal (targetRule lame 0 0) gives 10
-    ∷ refusal (bisectRule broken 0) gives 9 ∷ refusal (bisectRule lame 11) gives 10
+    ∷ refusal (bisectRule broken 0) gives 9 ∷ refusal (bisectRule lame 11) gives 10 ∷ refusal (bisectRule late 10) gives 10
     ∷ refusal (bisectRangeRule broken 0 1 0) gives 9
     ∷ refusal (bisectRangeRule w9 0 6 0) gives 6
     ∷ refusal (bisectRangeRule w9 3 2 0) gives 7
