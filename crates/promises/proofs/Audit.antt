@@ -30,6 +30,7 @@ abbrev Others : List Rule → Type 0
 Others [] = Unit
 Others (r ∷ rs) = Other (r .letter) × Others rs
 
+-- the first rule that fails has another letter
 first-other : (k : ℕ) (rs : List Rule) → Others rs → NotA (firstFlaw k rs)
 unfolding firstFlaw
 first-other k [] o = tt
@@ -38,16 +39,19 @@ first-other k (r ∷ rs) o =
     (λ e. rw (e, firstFlaw) (first-other k rs (o .1)))
     (λ e. rw (e, firstFlaw) (o .0))
 
+-- of two verdicts other than A, either is
 else-other : (v w : Verdict) → NotA v → NotA w → NotA (orElse v w)
 else-other wellFormed w a b = b
 else-other (flaw l k) w a b = a
 
+-- no segment is judged A
 from-other : (x : Index) (n k : ℕ) → NotA (auditFrom x n k)
 unfolding auditFrom
 from-other x zero k = tt
 from-other x (suc n) k =
     else-other (firstFlaw k (rulesOf x k)) (auditFrom x n (suc k)) (first-other k (rulesOf x k) (tt, (tt, (tt, (tt, (tt, tt)))))) (from-other x n (suc k))
 
+-- one verdict, one segment
 same-segment : (j k : ℕ) → flaw A j ≡ flaw A k → k ≡ j
 same-segment j k q = cc
 

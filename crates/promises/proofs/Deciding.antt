@@ -96,15 +96,19 @@ before-decided (given (inr d)) k = absurd (d .1)
 
 -- a choice is decided where both its sides are, each under what its test says
 module _ {A : Type 0} {t : List Sentence} {p q : Answer A} where
+  -- the test a < b
   pub by-lt : (a b : ℕ) → (a < b → Decided t p) → (b ≤ a → Decided t q) → Decided t (when (ltb a b) p q)
   by-lt a b f g = pick-case (Decided t) (ltb a b) (λ e. f (ltb-true a b e)) (λ e. g (ltb-false a b e))
 
+  -- the test a ≤ b
   pub by-le : (a b : ℕ) → (a ≤ b → Decided t p) → (b < a → Decided t q) → Decided t (when (leb a b) p q)
   by-le a b f g = pick-case (Decided t) (leb a b) (λ e. f (leb-true a b e)) (λ e. g (leb-false a b e))
 
+  -- the test a ≡ b
   pub by-eq : (a b : ℕ) → (a ≡ b → Decided t p) → ((a ≡ b → ⊥) → Decided t q) → Decided t (when (eqb a b) p q)
   by-eq a b f g = pick-case (Decided t) (eqb a b) (λ e. f (eqb-true a b e)) (λ e. g (eqb-false a b e))
 
+  -- a list of tests
   pub by-all : (ts : List Test) → (Facts ts → Decided t p) → ((Facts ts → ⊥) → Decided t q) → Decided t (when-all ts p q)
   by-all ts f g = if-case (Decided t) ts f g
 

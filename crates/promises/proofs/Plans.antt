@@ -28,10 +28,12 @@ Due x v (first d n) = WidthDue x × (d ≡ v - base x (lastOf x)) × (n ≡ need
 Due x v (more d w) = HasWidth x × (d ≡ v - base x (lastOf x)) × (w ≡ width x (lastOf x)) × (need x v ≤ w) × (w ≤ 8)
 
 module _ (x : Index) (v : ℕ) where
+  -- a new segment is planned where one is due
   segment-due : SegmentDue x v → Due x v (segmentPlan (x .state) (roomOf x))
   unfolding segmentPlan
   segment-due due = if-case (Due x v) (rule.segmentRoom (x .state) (roomOf x)) (λ f. due) (λ never. tt)
 
+  -- a first delta is planned where a width is due
   first-due : countsHold x ≡ true → WidthDue x → Due x v (firstPlan (x .state) (roomOf x) (base x (lastOf x)) v)
   unfolding firstPlan
   first-due c due =
@@ -41,6 +43,7 @@ module _ (x : Index) (v : ℕ) where
       (λ w. if-case (Due x v) (rule.dataRoom (x .state) (roomOf x) (need x v)) (λ r. (due, refl, refl, omega arith)) (λ never. tt))
       (λ never. tt)) (λ never. tt)
 
+  -- a further delta is planned where the current width holds it
   next-due : HasWidth x → Due x v (nextPlan (x .state) (roomOf x) (base x (lastOf x)) (width x (lastOf x)) v)
   unfolding nextPlan
   next-due has =
@@ -52,6 +55,7 @@ module _ (x : Index) (v : ℕ) where
       (λ never. let over : need x v ≤ w → ⊥ = λ l. never (l, tt) in segment-due (inr (has, omega arith))))
       (λ never. tt)) (λ never. tt)
 
+  -- what is planned is due
   pub plan-due : Due x v (planOf x v)
   unfolding planOf
   plan-due =

@@ -19,13 +19,15 @@ use Rattle.promises.specs.Table.{HasWidth, WidthDue, need, SegmentDue, B
 use Rattle.promises.proofs.Deciding.{Decided, pass, stop, go-on, or-else, within, full-or}
 use Rattle.promises.proofs.CountsRule.{counts-rule, counts-broken}
 
--- push's sentences from 2, from 1 and from 10 on
+-- push's sentences from 2 on
 abbrev from2 : Index → ℕ → List Sentence
 from2 x v = segmentRoom x v ∷ widthRoom x ∷ dataRoom x v ∷ []
 
+-- from 1 on
 abbrev from1 : Index → ℕ → List Sentence
 from1 x v = below x v ∷ from2 x v
 
+-- from 10 on
 abbrev from10 : Index → ℕ → List Sentence
 from10 x v = lastDamaged x ∷ from1 x v
 

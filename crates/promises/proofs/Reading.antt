@@ -141,11 +141,12 @@ reads-decided x a (suc n) c l =
     (λ e. let other = eqb-false (d .0) a e in inr (d .0, omega arith, omega arith, d .3)))
     (before-decided (get-inside x a c (omega arith)) (reads-decided x (suc a) n c (omega arith)))
 
--- get_range(a..b): its number of values, or the first refusal
+-- to write the values changes no refusal
 written-decided : {t : List Sentence} {a : Answer (List ℕ)} (out : List ℕ) → Decided t a → Decided t (written out a .answer)
 written-decided out (none n) = none n
 written-decided out (given g) = given g
 
+-- get_range(a..b)
 pub range-decided : (x : Index) (a b : ℕ) (out : List ℕ) → Decided (rangeTable x a b out) (rangeRule x a b out .answer)
 unfolding rangeRule
 range-decided x a b out =

@@ -14,19 +14,23 @@ use Rattle.promises.specs.Steps.{StepExactly}
 use Rattle.promises.proofs.Deciding.{Decided, none, given, one-given, some-given}
 use Rattle.promises.proofs.Reading.{get-decided}
 
--- done, a value and a refusal are three things
+-- done is no value
 done-gave {ℓ} : {P : Type ℓ} (v : ℕ) (c : Cursor) → done ≡ gave v c → P
 done-gave v c q = let z : _≡_ {A = ℕ} 0 1 = cc in absurd (omega arith)
 
+-- done is no refusal
 pub done-stays {ℓ} : {P : Type ℓ} (e : ℕ) (c : Cursor) → done ≡ stays e c → P
 done-stays e c q = let z : _≡_ {A = ℕ} 0 1 = cc in absurd (omega arith)
 
+-- a value is no refusal
 pub gave-stays {ℓ} : {P : Type ℓ} (v e : ℕ) (c d : Cursor) → gave v c ≡ stays e d → P
 gave-stays v e c d q = let z : _≡_ {A = ℕ} 0 1 = cc in absurd (omega arith)
 
+-- a refusal has one number
 same-stays : (d e : ℕ) (b c : Cursor) → stays d b ≡ stays e c → d ≡ e
 same-stays d e b c q = cc
 
+-- and one cursor
 pub same-cursor : (d e : ℕ) (b c : Cursor) → stays d b ≡ stays e c → c ≡ b
 same-cursor d e b c q = cc
 
