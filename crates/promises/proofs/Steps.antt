@@ -1,17 +1,17 @@
 -- A step is done, or it is what get(next) answers with the cursor beside it.
 use Prim.Native.Nat.{ℕ, _≤_, _<_}
-use mathlib.Core.Path.{_≡_, refl, sym}
+use mathlib.Core.Path.{_≡_, refl, sym, ap, _∙_}
 use native.Mathlib.Omega.{arith}
 use lib.Dec.{leb}
 use borrow.Author.Tests.{leb-true, leb-false}
 use Rattle.rules.specs.declared.Cursor.{Cursor}
-use Rattle.rules.specs.Words.{Answer}
+use Rattle.rules.specs.Words.{Answer, value}
 use Rattle.rules.specs.Record.{Index}
-use Rattle.rules.specs.Reading.{done, gave, stays, moved, stepRule}
+use Rattle.rules.specs.Reading.{done, gave, stays, moved, stepRule, getRule}
 use Rattle.laws.proofs.Tests.{pick-case}
 use Rattle.promises.specs.Table.{getTable}
 use Rattle.promises.specs.Steps.{StepExactly}
-use Rattle.promises.proofs.Deciding.{Decided, none, given, one-given, some-given}
+use Rattle.promises.proofs.Deciding.{Decided, none, given, one-given, some-given, no-refusal, one-value}
 use Rattle.promises.proofs.Reading.{get-decided}
 
 -- done is no value
@@ -34,26 +34,30 @@ same-stays d e b c q = cc
 pub same-cursor : (d e : ℕ) (b c : Cursor) → stays d b ≡ stays e c → c ≡ b
 same-cursor d e b c q = cc
 
+-- a step's value is one
+same-gave : (v w : ℕ) (b c : Cursor) → gave v b ≡ gave w c → v ≡ w
+same-gave v w b c q = cc
+
 module _ (x : Index) (c : Cursor) where
   -- nothing is left
   finished : c .end ≤ c .next → StepExactly x c done
   finished l = record {
     finishes = (λ q. l, λ h. refl);
     refuses = λ e. (λ q. done-stays e c q, λ g. absurd (omega arith));
-    gives = (λ g. done-gave (g .0) _ (g .1), λ n. absurd (omega arith));
+    gives = λ v. (λ q. done-gave v _ q, λ g. absurd (omega arith));
   }
 
-  -- something is left
-  going : {a : Answer ℕ} → c .next < c .end → Decided (getTable x (c .next)) a → StepExactly x c (moved c a)
-  going l (none {v} n) = record {
+  -- something is left, and get(next) answers a
+  going : {a : Answer ℕ} → getRule x (c .next) ≡ a → c .next < c .end → Decided (getTable x (c .next)) a → StepExactly x c (moved c a)
+  going is l (none {v} n) = record {
     finishes = (λ q. done-gave v _ (sym q), λ h. absurd (omega arith));
     refuses = λ e. (λ q. gave-stays v e _ c q, λ g. absurd (some-given (getTable x (c .next)) e (g .1) n));
-    gives = (λ g. (l, n), λ g. (v, refl));
+    gives = λ w. (λ q. (l, is ∙ ap value (same-gave v w _ _ q)), λ g. rw (one-value v w (sym is ∙ g .1)));
   }
-  going l (given {e = d} g) = record {
+  going is l (given {e = d} g) = record {
     finishes = (λ q. done-stays d c (sym q), λ h. absurd (omega arith));
     refuses = λ e. (λ q. (l, rw (same-stays d e c c q) at g), λ h. rw (one-given (getTable x (c .next)) d e g (h .1)));
-    gives = (λ h. gave-stays (h .0) d _ c (sym (h .1)), λ n. absurd (some-given (getTable x (c .next)) d g (n .1)));
+    gives = λ w. (λ q. gave-stays w d _ c (sym q), λ h. no-refusal w d (sym (h .1) ∙ is));
   }
 
   -- a step
@@ -62,4 +66,4 @@ module _ (x : Index) (c : Cursor) where
   step-decided =
       pick-case (StepExactly x c) (leb (c .end) (c .next))
       (λ t. finished (leb-true (c .end) (c .next) t))
-      (λ t. going (leb-false (c .end) (c .next) t) (get-decided x (c .next)))
+      (λ t. going refl (leb-false (c .end) (c .next) t) (get-decided x (c .next)))
