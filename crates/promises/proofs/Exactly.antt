@@ -11,11 +11,12 @@ use Rattle.rules.specs.Audit.{A, flaw, auditRule}
 use Rattle.promises.specs.Sentences.{Exactly}
 use Rattle.promises.specs.Table.{CountsRule, openTable, pushTable, countsTable, getTable, rangeTable, iterTable, targetTable, bisectTable, bisectRangeTable, runCountTable, runValueTable}
 use Rattle.promises.specs.Steps.{StepExactly}
+use Rattle.promises.specs.Audited.{AuditExactly}
 use Rattle.promises.proofs.Deciding.{exactly}
 use Rattle.promises.proofs.Reading.{get-decided, range-decided, iter-decided, target-decided, bisect-decided, bisect-range-decided, open-decided, length-decided, size-decided, run-count-decided, run-value-decided}
 use Rattle.promises.proofs.Push.{push-decided}
 use Rattle.promises.proofs.Steps.{step-decided}
-use Rattle.promises.proofs.Audit.{audit-counts}
+use Rattle.promises.proofs.Audited.{audit-decided, audit-counts}
 
 -- opening: 11
 pub open-exactly : (m : ℕ) → Exactly (openTable m) (openRule m)
@@ -69,6 +70,10 @@ bisect-exactly x v = exactly (bisect-decided x v)
 pub bisect-range-exactly : (x : Index) (a b v : ℕ) → Exactly (bisectRangeTable x a b v) (bisectRangeRule x a b v)
 bisect-range-exactly x a b v = exactly (bisect-range-decided x a b v)
 
--- the audit answers A instead of 9, with segment 0
-pub audit-exactly : (x : Index) (k : ℕ) → (auditRule x ≡ flaw A k) ↔ ((k ≡ 0) × (CountsRule x → ⊥))
-audit-exactly x k = audit-counts x k
+-- the audit: well formed, or the first rule that fails and its segment
+pub audit-exactly : (x : Index) → AuditExactly x (auditRule x)
+audit-exactly x = audit-decided x
+
+-- the audit answers A where the others answer 9, with segment 0
+pub audit-a-exactly : (x : Index) (k : ℕ) → (auditRule x ≡ flaw A k) ↔ ((CountsRule x → ⊥) × (k ≡ 0))
+audit-a-exactly x k = audit-counts x k

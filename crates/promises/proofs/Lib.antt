@@ -3,7 +3,7 @@ pub mod CountsRule
 pub mod Reading
 pub mod Push
 pub mod Steps
-pub mod Audit
+pub mod Audited
 pub mod Exactly
 pub mod One
 pub mod Stores

@@ -3,4 +3,5 @@ pub mod Table
 pub mod Steps
 pub mod Outcomes
 pub mod Kept
+pub mod Audited
 pub mod Examples

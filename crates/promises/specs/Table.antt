@@ -140,7 +140,7 @@ abbrev pub targetTable : Index → ℕ → List Sentence
 targetTable x p = counts x ∷ position x p ∷ 10 if (GetDamaged x p ⊎ ((p + 2 ≤ lengthOf x) × GetDamaged x (p + 1))) ∷ []
 
 -- damage of v searched in segment s: its start is at or past length; its base is above v; or its base is below v, it has a width entry, and
--- the width is outside m to 8, not offset <= end <= used, or the deltas are more than length - start - 1
+-- the width is outside m to 8, not offset <= end <= used (the end is the next offset, or used), or the deltas are more than length - start - 1
 abbrev pub SearchDamaged : Index → ℕ → ℕ → Type 0
 SearchDamaged x s v =
     (lengthOf x ≤ start x s)
