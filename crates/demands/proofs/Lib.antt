@@ -1,0 +1,10 @@
+pub mod WellFormed
+pub mod Bytes
+pub mod Order
+pub mod Grow
+pub mod Step
+pub mod Run
+pub mod Room
+pub mod Get
+pub mod Bisect
+pub mod Ranges
