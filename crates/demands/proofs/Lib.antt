@@ -1,10 +1,6 @@
+pub mod Compare
 pub mod WellFormed
+pub mod Bounds
 pub mod Bytes
-pub mod Order
-pub mod Grow
-pub mod Step
-pub mod Run
-pub mod Room
-pub mod Get
-pub mod Bisect
-pub mod Ranges
+pub mod Holds
+pub mod NewSegment

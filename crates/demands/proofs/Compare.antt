@@ -1,0 +1,20 @@
+-- Cases on how two numbers compare, and answers that cannot be alike.
+use Prim.Native.Nat.{ℕ, _≤_, _<_}
+use mathlib.Core.Path.{_≡_}
+use native.Mathlib.Omega.{arith}
+use lib.Dec.{ltb}
+use borrow.Author.Tests.{ltb-true, ltb-false}
+use Rattle.rules.specs.Words.{value, refused}
+use Rattle.laws.proofs.Tests.{by-test}
+
+-- a is below b, or not
+pub by-less {ℓ} : {P : Type ℓ} (a b : ℕ) → (a < b → P) → (b ≤ a → P) → P
+by-less a b below above = by-test (ltb a b) (λ t. below (ltb-true a b t)) (λ t. above (ltb-false a b t))
+
+-- a is below b, b itself, or above b
+pub by-order {ℓ} : {P : Type ℓ} (a b : ℕ) → (a < b → P) → (a ≡ b → P) → (b < a → P) → P
+by-order a b below same above = by-less a b below (λ l. by-less b a above (λ g. same (omega arith)))
+
+-- a value is no refusal
+pub value-refused {ℓ} : {P : Type ℓ} {A : Type 0} {a : A} {e : ℕ} → value a ≡ refused e → P
+value-refused q = let z : _≡_ {A = ℕ} 0 1 = cc in absurd (omega arith)
