@@ -4,3 +4,5 @@ pub mod Bounds
 pub mod Bytes
 pub mod Holds
 pub mod NewSegment
+pub mod NewDelta
+pub mod Push

@@ -1,0 +1,201 @@
+-- A push on a well-formed index: what each plan may rely on, why it keeps the audit, and why room is enough.
+use Prim.Native.Nat.{ℕ, zero, suc, _+_, _-_, _*_, _/_, _^_, _≤_, _<_}
+use mathlib.Core.Bool.{true, false}
+use mathlib.Core.List.{List, [], _∷_}
+use mathlib.Core.Path.{_≡_, refl, sym}
+use native.Mathlib.Omega.{arith}
+use native.Mathlib.Nat.{pow-le-pow-right, lt-of-lt-of-le, zero-mul}
+use lib.Dec.{ltb, eqb, lit<}
+use lib.ListN.{length, getD, set, length-set}
+use lib.Seq.{getD-set-same, getD-set-other}
+use borrow.Author.Tests.{ltb-true, ltb-false, eqb-true, eqb-false}
+use Rattle.rules.specs.Words.{_≤?_, _<?_, Facts}
+use Rattle.rules.specs.Record.{Index, lengthOf, minimumOf, segmentsOf, usedOf, widthsOf, lastOf, roomOf, widthTests, edge, mark, base, width}
+use Rattle.rules.specs.Push.{needOf, Plan, refuse, segment, first, more, segmentRoom, dataRoom, segmentPlan, firstPlan, nextPlan, planOf, withSegment, withFirst, withMore}
+use Rattle.laws.proofs.Tests.{pick-case, if-case}
+use Rattle.laws.proofs.Widths.{width-holds, width-least, width-most}
+use Rattle.demands.specs.Terms.{RoomFor}
+use Rattle.demands.proofs.Compare.{by-less}
+use Rattle.demands.proofs.WellFormed.{WellFormed, edge-last, mark-last}
+use Rattle.demands.proofs.Bounds.{counted, length-least, used-most}
+use Rattle.demands.proofs.Holds.{OneMore}
+use Rattle.demands.proofs.NewSegment.{segment-more}
+use Rattle.demands.proofs.NewDelta.{Appended, delta-more}
+
+-- what a plan may rely on; a refusal is 1 to 4, and with room for a value more it is 1
+abbrev pub Allowed : Index → ℕ → Plan → Type 0
+Allowed x v (refuse e) = (e ≤ 4) × ((n : ℕ) → lengthOf x < n → RoomFor (roomOf x) n → e ≡ 1)
+Allowed x v segment =
+    record {
+      all : widthsOf x ≡ segmentsOf x;
+      room : Facts (segmentRoom (x .state) (roomOf x));
+      gap : v < 2 ^ 64 → (k : ℕ) → k + 1 ≡ segmentsOf x → base x k + 256 ^ width x k ≤ v;
+    }
+Allowed x v (first d need) =
+    record {
+      last : widthsOf x + 1 ≡ segmentsOf x;
+      sum : base x (lastOf x) + d ≡ v;
+      least : minimumOf x ≤ need;
+      most : need ≤ 8;
+      holds : v < 2 ^ 64 → d < 256 ^ need;
+      entry : widthsOf x < length (x .widths);
+      room : Facts (dataRoom (x .state) (roomOf x) need);
+    }
+Allowed x v (more d wide) =
+    record {
+      all : widthsOf x ≡ segmentsOf x;
+      some : 1 ≤ segmentsOf x;
+      sum : base x (lastOf x) + d ≡ v;
+      is : width x (lastOf x) ≡ wide;
+      holds : v < 2 ^ 64 → d < 256 ^ wide;
+      room : Facts (dataRoom (x .state) (roomOf x) wide);
+    }
+
+-- a width that is enough holds its number
+need-holds : (d m w : ℕ) → d < 2 ^ 64 → needOf d m ≤ w → d < 256 ^ w
+need-holds d m w s h = lt-of-lt-of-le (width-holds d s) (pow-le-pow-right {n = 256} (lit< tt) (omega arith))
+
+-- a number that needs more than w bytes is at least 256^w
+need-above : (d m w : ℕ) → d < 2 ^ 64 → 0 < w → m ≤ w → (needOf d m ≤ w → ⊥) → 256 ^ w ≤ d
+need-above d m w s p h never = by-less d (256 ^ w) (λ l. let q = width-least d w s p l in absurd (never (omega arith))) (λ l. l)
+
+module _ (x : Index) (w : WellFormed x) (v : ℕ) where
+  segment-allowed : widthsOf x ≡ segmentsOf x → (v < 2 ^ 64 → (k : ℕ) → k + 1 ≡ segmentsOf x → base x k + 256 ^ width x k ≤ v)
+      → Allowed x v (segmentPlan (x .state) (roomOf x))
+  unfolding segmentPlan
+  segment-allowed all gap =
+      if-case (Allowed x v) (segmentRoom (x .state) (roomOf x))
+      (λ f. record { all = all; room = f; gap = gap })
+      (λ never. (omega arith, λ n l r. absurd (never (let s = length-least x w in omega arith))))
+
+  first-allowed : widthsOf x + 1 ≡ segmentsOf x → Allowed x v (firstPlan (x .state) (roomOf x) (base x (lastOf x)) v)
+  unfolding firstPlan
+  first-allowed last =
+      let c = w .counts in
+      let s = length-least x w in
+      let u = used-most x w in
+      let b = base x (lastOf x) in
+      let need = needOf (v - b) (minimumOf x) in
+      let top = width-most (v - b) in
+      if-case (Allowed x v) (b ≤? v ∷ [])
+      (λ f. if-case (Allowed x v) ((widthsOf x) <? length (x .widths) ∷ [])
+      (λ f2. if-case (Allowed x v) (dataRoom (x .state) (roomOf x) need)
+      (λ f3. record {
+        last = last;
+        sum = omega arith;
+        least = omega arith;
+        most = omega arith;
+        holds = λ h. need-holds (v - b) (minimumOf x) need (omega arith) (omega arith);
+        entry = f2 .0;
+        room = f3;
+      })
+      (λ never. (omega arith, λ n l r. absurd (never (omega arith)))))
+      (λ never. (omega arith, λ n l r. absurd (never (omega arith)))))
+      (λ never. (omega arith, λ n l r. refl))
+
+  next-allowed : widthsOf x ≡ segmentsOf x → 1 ≤ segmentsOf x → Allowed x v (nextPlan (x .state) (roomOf x) (base x (lastOf x)) (width x (lastOf x)) v)
+  unfolding nextPlan
+  next-allowed all some =
+      let c = w .counts in
+      let u = used-most x w in
+      let k = lastOf x in
+      let b = base x k in
+      let o = w .whole k (omega arith) in
+      let o1 = o .least in
+      let o2 = o .most in
+      if-case (Allowed x v) (widthTests (minimumOf x) (width x k))
+      (λ f. if-case (Allowed x v) (b ≤? v ∷ [])
+      (λ f2. if-case (Allowed x v) (needOf (v - b) (minimumOf x) ≤? width x k ∷ [])
+      (λ f3. if-case (Allowed x v) (dataRoom (x .state) (roomOf x) (width x k))
+      (λ f4. record {
+        all = all;
+        some = some;
+        sum = omega arith;
+        is = refl;
+        holds = λ h. need-holds (v - b) (minimumOf x) (width x k) (omega arith) (f3 .0);
+        room = f4;
+      })
+      (λ never. (omega arith, λ n l r. absurd (never (omega arith)))))
+      (λ never. segment-allowed all
+      (λ h j e.
+      let a = need-above (v - b) (minimumOf x) (width x k) (omega arith) (omega arith) o1 (λ l. never (l, tt)) in
+      let t : j ≡ k = omega arith in
+      rw t (omega arith))))
+      (λ never. (omega arith, λ n l r. refl)))
+      (λ never. absurd (never (omega arith)))
+
+  -- the plan of a push may rely on it
+  pub plan-allowed : Allowed x v (planOf x v)
+  unfolding planOf
+  plan-allowed =
+      let c = w .counts in
+      rw (counted x w)
+      (pick-case (Allowed x v) (eqb (segmentsOf x) 0)
+      (λ e. let z = eqb-true (segmentsOf x) 0 e in segment-allowed (omega arith) (λ h k l. absurd (omega arith)))
+      (λ e.
+      let z = eqb-false (segmentsOf x) 0 e in
+      pick-case (Allowed x v) (ltb (lastOf x) (widthsOf x))
+      (λ e2. let l = ltb-true (lastOf x) (widthsOf x) e2 in next-allowed (omega arith) (omega arith))
+      (λ e2. let l = ltb-false (lastOf x) (widthsOf x) e2 in first-allowed (omega arith))))
+
+module _ (x : Index) (w : WellFormed x) (v : ℕ) (small : v < 2 ^ 64) where
+  -- a new segment keeps the audit
+  pub more-segment : Allowed x v segment → OneMore x (withSegment x v) v
+  more-segment a = segment-more x w v (a .all) (a .room) (a .gap small)
+
+  -- a first delta: there are none before it
+  pub more-first : (d need : ℕ) → Allowed x v (first d need) → OneMore x (withFirst x d need) v
+  more-first d need a =
+      let c = w .counts in
+      let e : lastOf x ≡ widthsOf x = omega arith in
+      let b = w .bare (omega arith) in
+      let low : edge x (lastOf x) + 1 ≡ lengthOf x = rw e (b .0) in
+      let end : mark x (lastOf x) ≡ usedOf x = rw e (b .1) in
+      let none : lengthOf x - edge x (lastOf x) - 1 ≡ 0 = omega arith in
+      delta-more x w v need d _ _
+      (record {
+        some = omega arith;
+        all = a .last;
+        least = a .least;
+        most = a .most;
+        sum = a .sum;
+        small = small;
+        holds = a .holds small;
+        room = a .room;
+        long = let r = a .entry in rw length-set (omega arith);
+        widths = λ j h. getD-set-other (x .widths) (widthsOf x) j need 0 (λ q. omega arith);
+        here = rw e (getD-set-same (x .widths) (widthsOf x) need 0 (a .entry));
+        below = omega arith;
+        full = rw (none, zero-mul need) (omega arith);
+        before = λ h. absurd (omega arith);
+        fits = λ i h. absurd (omega arith);
+      })
+
+  -- a further delta: those before it have the same width
+  pub more-delta : (d wide : ℕ) → Allowed x v (more d wide) → OneMore x (withMore x d wide) v
+  more-delta d wide a =
+      let c = w .counts in
+      let s = a .some in
+      let k = lastOf x in
+      let o = w .whole k (omega arith) in
+      let top : edge x (k + 1) ≡ lengthOf x = edge-last x (k + 1) (omega arith) in
+      let end : mark x (k + 1) ≡ usedOf x = mark-last x (k + 1) (omega arith) in
+      let two = o .some in
+      delta-more x w v wide d _ _
+      (record {
+        some = s;
+        all = a .all;
+        least = rw (a .is) at (o .least);
+        most = rw (a .is) at (o .most);
+        sum = a .sum;
+        small = small;
+        holds = a .holds small;
+        room = a .room;
+        long = omega arith;
+        widths = λ j h. refl;
+        here = a .is;
+        below = omega arith;
+        full = rw (top, end, a .is) at (o .ends);
+        before = λ h. a .is;
+        fits = rw (top, a .is) at (o .fits);
+      })
