@@ -6,3 +6,6 @@ pub mod Holds
 pub mod NewSegment
 pub mod NewDelta
 pub mod Push
+pub mod Run
+pub mod Search
+pub mod Get
