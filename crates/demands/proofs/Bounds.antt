@@ -60,6 +60,10 @@ module _ (x : Index) (w : WellFormed x) where
   pub base-above : (i j : ℕ) → i < j → j < segmentsOf x → base x i + 256 ^ width x i ≤ base x j
   base-above i j l h = let e : j - i - 1 + i + 1 ≡ j = omega arith in rw e at (base-rise i (j - i - 1) (omega arith))
 
+  -- bases never fall
+  pub base-mono : (i j : ℕ) → i ≤ j → j < segmentsOf x → base x i ≤ base x j
+  base-mono i j l h = by-less i j (λ b. let a = base-above i j b h in omega arith) (λ b. let e : i ≡ j = omega arith in rw e (omega arith))
+
   edge-least : (k : ℕ) → k ≤ widthsOf x → 2 * k ≤ edge x k
   edge-least zero h = omega arith
   edge-least (suc k) h =
@@ -109,7 +113,7 @@ module _ (x : Index) (w : WellFormed x) where
 
   -- the last base is not below the first
   pub last-above : 1 ≤ lengthOf x → base x 0 ≤ base x (lastOf x)
-  last-above h = let c = w .counts in let l = base-least (lastOf x) (omega arith) in omega arith
+  last-above h = let c = w .counts in base-mono 0 (lastOf x) (omega arith) (omega arith)
 
   -- segments <= 1 + (last base - first base) / 256^m
   pub segments-spread : 1 ≤ lengthOf x → segmentsOf x ≤ 1 + (base x (lastOf x) - base x 0) / 256 ^ minimumOf x

@@ -9,3 +9,4 @@ pub mod Push
 pub mod Run
 pub mod Search
 pub mod Get
+pub mod Bisect
