@@ -10,3 +10,7 @@ pub mod Run
 pub mod Search
 pub mod Get
 pub mod Bisect
+pub mod Ranges
+pub mod Walks
+pub mod Room
+pub mod DeltaRun

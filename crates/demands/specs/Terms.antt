@@ -1,10 +1,11 @@
--- What the demands speak of beside the rules: values of 64 bits, room for n values, a walk.
+-- What the demands speak of beside the rules: values of 64 bits, room for n values, a walk, a segment's bytes.
 use Prim.Native.Nat.{ℕ, _+_, _-_, _*_, _/_, _^_, _≤_, _<_}
 use mathlib.Core.List.{List, [], _∷_}
 use mathlib.Core.Path.{_≡_}
+use lib.ListN.{take, drop}
 use Rattle.rules.specs.declared.Room.{Room}
 use Rattle.rules.specs.declared.Cursor.{Cursor}
-use Rattle.rules.specs.Record.{Index}
+use Rattle.rules.specs.Record.{Index, mark}
 use Rattle.rules.specs.Reading.{done, gave, stepRule}
 
 -- each value is below 2^64
@@ -25,3 +26,7 @@ pub record RoomFor (r : Room) (n : ℕ) : Type 0 where
 abbrev pub Walks : Index → Cursor → List ℕ → Type 0
 Walks x c [] = stepRule x c ≡ done
 Walks x c (v ∷ vs) = (next : Cursor) × (stepRule x c ≡ gave v next) × Walks x next vs
+
+-- the packed bytes of segment k
+abbrev pub bytesOf : Index → ℕ → List ℕ
+bytesOf x k = take (mark x (k + 1) - mark x k) (drop (mark x k) (x .bytes))
