@@ -14,3 +14,4 @@ pub mod Ranges
 pub mod Walks
 pub mod Room
 pub mod DeltaRun
+pub mod Undamaged

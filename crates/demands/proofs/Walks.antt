@@ -2,7 +2,7 @@
 use Prim.Native.Nat.{ℕ, zero, suc, _+_, _-_, _≤_, _<_}
 use mathlib.Core.Bool.{true, false}
 use mathlib.Core.List.{List, [], _∷_}
-use mathlib.Core.Path.{_≡_, refl, ap, _∙_}
+use mathlib.Core.Path.{_≡_, refl, sym, ap, _∙_, subst}
 use native.Mathlib.Omega.{arith}
 use native.Mathlib.Numerals.{add-one}
 use lib.ListN.{length}
@@ -24,6 +24,13 @@ moved-gave : (c : Cursor) (a : Answer ℕ) (v : ℕ) (next : Cursor) → moved c
 moved-gave c (value u) v next e = (cc, cc)
 moved-gave c (refused n) v next e = let z : _≡_ {A = ℕ} 0 1 = cc in absurd (omega arith)
 
+-- values in front of others: each is one
+before-value : (a : Answer ℕ) (r : Answer (List ℕ)) (vs : List ℕ) → before a r ≡ value vs
+    → (v : ℕ) × (us : List ℕ) × (a ≡ value v) × (r ≡ value us) × (v ∷ us ≡ vs)
+before-value (value v) (value us) vs e = (v, us, refl, refl, cc)
+before-value (value v) (refused n) vs e = value-refused (sym e)
+before-value (refused n) r vs e = value-refused (sym e)
+
 module _ (x : Index) where
   -- a step at or past end is done
   step-end : (a b : ℕ) → b ≤ a → stepRule x (cursor a b) ≡ done
@@ -34,3 +41,29 @@ module _ (x : Index) where
   step-reads : (a b : ℕ) → a < b → stepRule x (cursor a b) ≡ moved (cursor a b) (getRule x a)
   unfolding stepRule
   step-reads a b h = rw (lt-leb b a h)
+
+  -- a walk gives what reads gives, one value for each position
+  pub walk-reads : (vs : List ℕ) (a b : ℕ) → Walks x (cursor a b) vs → (reads x a (b - a) ≡ value vs) × (length vs ≡ b - a)
+  unfolding reads
+  walk-reads [] a b s =
+      by-less a b
+      (λ l. moved-done (cursor a b) (getRule x a) (sym (step-reads a b l) ∙ s))
+      (λ l. let z : b - a ≡ 0 = omega arith in rw z (refl, refl))
+  walk-reads (v ∷ vs) a b s =
+      by-less a b
+      (λ l.
+      let g = moved-gave (cursor a b) (getRule x a) v (s .0) (sym (step-reads a b l) ∙ s .1) in
+      let r = walk-reads vs (suc a) b (rw (g .1, add-one a) at (s .2)) in
+      let n = r .1 in
+      let z : b - a ≡ suc (b - suc a) = omega arith in
+      (rw (z, g .0, r .0), omega arith))
+      (λ l. moved-done (cursor a b) (value v) (let e = step-end a b l in let f = s .1 in cc))
+
+  -- and where reads gives values, a walk gives them
+  pub reads-walk : (n a b : ℕ) (vs : List ℕ) → b - a ≡ n → reads x a n ≡ value vs → Walks x (cursor a b) vs
+  unfolding reads
+  reads-walk zero a b vs q e = let f : [] ≡ vs = cc in subst (Walks x (cursor a b)) f (step-end a b (omega arith))
+  reads-walk (suc n) a b vs q e =
+      let f = before-value (getRule x a) (reads x (suc a) n) vs e in
+      let rest : Walks x (cursor (a + 1) b) (f .1) = rw (add-one a) (reads-walk n (suc a) b (f .1) (omega arith) (f .3)) in
+      subst (Walks x (cursor a b)) (f .4) (cursor (a + 1) b, step-reads a b (omega arith) ∙ ap (moved (cursor a b)) (f .2), rest)
