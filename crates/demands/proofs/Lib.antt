@@ -15,3 +15,4 @@ pub mod Walks
 pub mod Room
 pub mod DeltaRun
 pub mod Undamaged
+pub mod Demands
