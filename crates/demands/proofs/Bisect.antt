@@ -1,13 +1,13 @@
 -- On a well-formed index bisect_left is never damage; where no segment falls, it cuts the values at v, since a segment's values are below the next base.
 use Prim.Native.Nat.{ℕ, zero, suc, _+_, _-_, _*_, _/_, _^_, _≤_, _<_}
-use mathlib.Core.Bool.{Bool, true, false}
+use mathlib.Core.Bool.{Bool, false}
 use mathlib.Core.List.{List, [], _∷_}
-use mathlib.Core.Path.{_≡_, refl, sym, ap, _∙_}
+use mathlib.Core.Path.{_≡_, sym, ap, _∙_}
 use native.Mathlib.Omega.{arith}
 use native.Mathlib.Nat.{mul-div-cancel, one-le-pow}
 use lib.Dec.{leb, ltb, eqb, lit<}
 use lib.ListN.{length, getD}
-use borrow.Author.Tests.{ltb-true, ltb-false, lt-ltb, le-ltb, lt-leb, eqb-true, eqb-false, ne-eqb}
+use borrow.Author.Tests.{ltb-true, ltb-false, lt-ltb, le-ltb, lt-leb, eqb-true, eqb-false}
 use Rattle.rules.specs.Words.{value}
 use Rattle.rules.specs.Record.{Index, lengthOf, segmentsOf, widthsOf, usedOf, start, base, width, edge, mark}
 use Rattle.rules.specs.Push.{deltaAt}

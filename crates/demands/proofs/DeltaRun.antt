@@ -1,12 +1,12 @@
 -- The delta run over an audited segment's bytes: its deltas are the segment's, so its i-th value is what get answers.
-use Prim.Native.Nat.{ℕ, suc, _+_, _-_, _*_, _/_, _≤_, _<_}
-use mathlib.Core.Path.{_≡_, refl, sym, ap, _∙_}
+use Prim.Native.Nat.{ℕ, suc, _+_, _-_, _*_, _/_, _<_}
+use mathlib.Core.Path.{_≡_, sym, ap, _∙_}
 use native.Mathlib.Omega.{arith}
 use native.Mathlib.Nat.{mul-div-cancel}
 use lib.ListN.{length, getD, drop, length-drop}
 use lib.Seq.{length-take-le, getD-take, getD-drop}
 use Rattle.rules.specs.Words.{value}
-use Rattle.rules.specs.Record.{Index, segmentsOf, start, base, width, edge, mark, widthsOf}
+use Rattle.rules.specs.Record.{Index, start, base, width, edge, mark, widthsOf}
 use Rattle.rules.specs.Push.{deltaAt}
 use Rattle.rules.specs.Reading.{getRule, runCountRule, runValueRule}
 use Rattle.rules.specs.Audit.{deltas}

@@ -1,12 +1,12 @@
 -- On a well-formed index get answers what the index holds: the halving over starts finds the one segment that has the position.
-use Prim.Native.Nat.{ℕ, zero, suc, _+_, _-_, _*_, _^_, _≤_, _<_}
-use mathlib.Core.Bool.{true, false}
+use Prim.Native.Nat.{ℕ, zero, suc, _+_, _-_, _≤_, _<_}
+use mathlib.Core.Bool.{false}
 use mathlib.Core.Path.{_≡_, refl, sym, ap, _∙_}
 use native.Mathlib.Omega.{arith}
 use lib.Dec.{ltb, eqb}
 use borrow.Author.Tests.{lt-ltb, le-ltb, eq-eqb, ne-eqb}
 use Rattle.rules.specs.Words.{value}
-use Rattle.rules.specs.Record.{Index, lengthOf, segmentsOf, widthsOf, start, edge, mark, width}
+use Rattle.rules.specs.Record.{Index, lengthOf, segmentsOf, widthsOf, start, edge, width}
 use Rattle.rules.specs.Reading.{deltaRead, readIn, startsUpTo, getRule}
 use Rattle.rules.specs.Audit.{deltas}
 use Rattle.laws.proofs.Tests.{taken}

@@ -6,14 +6,14 @@ use native.Mathlib.Omega.{arith}
 use lib.ListN.{length, getD}
 use lib.Seq.{sets, length-sets}
 use Rattle.rules.specs.Words.{Facts}
-use Rattle.rules.specs.Record.{Index, index, state, lengthOf, minimumOf, segmentsOf, usedOf, widthsOf, lastOf, roomOf, edge, mark, base, width}
+use Rattle.rules.specs.Record.{Index, index, lengthOf, minimumOf, segmentsOf, usedOf, lastOf, roomOf, edge, mark, base, width}
 use Rattle.rules.specs.Push.{deltaBytes, deltaAt, dataRoom, grown}
 use Rattle.rules.specs.Audit.{deltas}
 use Rattle.laws.specs.Orders.{ordersOf}
 use Rattle.demands.proofs.Compare.{by-less}
 use Rattle.demands.proofs.WellFormed.{WholeAt, WellFormed, edge-last, mark-last, edge-at, mark-at}
 use Rattle.demands.proofs.Bytes.{delta-room, delta-kept, sets-before, delta-stored, bytes-stored}
-use Rattle.demands.proofs.Holds.{item, itemOf, Bytes, Holds, OneMore, whole-kept}
+use Rattle.demands.proofs.Holds.{item, itemOf, Holds, OneMore, whole-kept}
 
 -- the bytes of d + 1 deltas
 one-more : (at d wide used from n : ℕ) → d ≡ n - from - 1 → from < n → at + d * wide ≡ used → at + (n + 1 - from - 1) * wide ≡ used + wide

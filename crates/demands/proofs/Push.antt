@@ -1,12 +1,11 @@
 -- A push on a well-formed index: what each plan may rely on, why it keeps the audit, and why room is enough.
-use Prim.Native.Nat.{ℕ, zero, suc, _+_, _-_, _*_, _/_, _^_, _≤_, _<_}
-use mathlib.Core.Bool.{true, false}
-use mathlib.Core.List.{List, [], _∷_}
-use mathlib.Core.Path.{_≡_, refl, sym}
+use Prim.Native.Nat.{ℕ, _+_, _-_, _^_, _≤_, _<_}
+use mathlib.Core.List.{[], _∷_}
+use mathlib.Core.Path.{_≡_, refl}
 use native.Mathlib.Omega.{arith}
 use native.Mathlib.Nat.{pow-le-pow-right, lt-of-lt-of-le, zero-mul}
 use lib.Dec.{ltb, eqb, lit<}
-use lib.ListN.{length, getD, set, length-set}
+use lib.ListN.{length, length-set}
 use lib.Seq.{getD-set-same, getD-set-other}
 use borrow.Author.Tests.{ltb-true, ltb-false, eqb-true, eqb-false}
 use Rattle.rules.specs.Words.{_≤?_, _<?_, Facts}
@@ -20,7 +19,7 @@ use Rattle.demands.proofs.WellFormed.{WellFormed, edge-last, mark-last}
 use Rattle.demands.proofs.Bounds.{counted, length-least, used-most}
 use Rattle.demands.proofs.Holds.{OneMore}
 use Rattle.demands.proofs.NewSegment.{segment-more}
-use Rattle.demands.proofs.NewDelta.{Appended, delta-more}
+use Rattle.demands.proofs.NewDelta.{delta-more}
 
 -- what a plan may rely on; a refusal is 1 to 4, and with room for a value more it is 1
 abbrev pub Allowed : Index → ℕ → Plan → Type 0

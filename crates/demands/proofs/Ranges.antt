@@ -1,14 +1,14 @@
 -- Ranges on a well-formed index: get at each position, so on an index that pushes made the accepted values.
 use Prim.Native.Nat.{ℕ, zero, suc, _+_, _-_, _≤_, min, max}
 use mathlib.Core.List.{List, [], _∷_, _++_}
-use mathlib.Core.Path.{_≡_, refl, sym, ap, _∙_}
+use mathlib.Core.Path.{_≡_, refl}
 use native.Mathlib.Omega.{arith}
 use lib.ListN.{length, getD, take, drop, length-drop}
 use lib.Seq.{sets, sets-eq, drop-cons, length-take-le}
 use borrow.Author.Tests.{le-leb}
 use Rattle.rules.specs.Words.{Answer, value}
 use Rattle.rules.specs.Record.{Index, lengthOf}
-use Rattle.rules.specs.Reading.{inRange, reads, Ranged, ranged, rangeRule, cursor, iterRule, bisectRule, bisectRangeRule}
+use Rattle.rules.specs.Reading.{inRange, reads, ranged, rangeRule, cursor, iterRule, bisectRangeRule}
 use Rattle.rules.specs.Run.{howMany, NeverFalls}
 use Rattle.demands.proofs.WellFormed.{WellFormed}
 use Rattle.demands.proofs.Bounds.{counted}

@@ -1,7 +1,6 @@
 -- What the halving with the test "entry at most v" says of any table, sorted or not: its own two probes at the end.
 use Prim.Native.Nat.{ℕ, _-_, _≤_, _<_}
 use mathlib.Core.List.{List}
-use native.Mathlib.Omega.{arith}
 use lib.ListN.{getD}
 use borrow.Author.Tests.{leb-true, leb-false}
 use Rattle.rules.specs.Reading.{halving, atMost}

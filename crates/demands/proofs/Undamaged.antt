@@ -1,16 +1,15 @@
 -- On a well-formed index no read is damage: each get within length is a value, and what leads elsewhere has its own number.
-use Prim.Native.Nat.{ℕ, _+_, _-_, _≤_, _<_}
-use mathlib.Core.Bool.{true, false}
+use Prim.Native.Nat.{ℕ, _+_, _-_, _≤_}
 use mathlib.Core.List.{List}
 use mathlib.Core.Path.{_≡_}
 use native.Mathlib.Omega.{arith}
 use lib.Dec.{leb, ltb}
 use lib.ListN.{length}
-use borrow.Author.Tests.{leb-true, ltb-false, le-ltb}
+use borrow.Author.Tests.{leb-true, le-ltb}
 use Rattle.rules.specs.declared.Cursor.{Cursor}
 use Rattle.rules.specs.Words.{unless, Answer, value, refused, andThen}
 use Rattle.rules.specs.Record.{Index, lengthOf}
-use Rattle.rules.specs.Reading.{getRule, inRange, reads, written, rangeRule, Stepped, done, stays, moved, stepRule, targetEnd, targetRule, bisectRule, bisectRangeRule}
+use Rattle.rules.specs.Reading.{getRule, inRange, reads, written, rangeRule, Stepped, stays, moved, stepRule, targetEnd, targetRule, bisectRule, bisectRangeRule}
 use Rattle.laws.proofs.Tests.{pick-case}
 use Rattle.demands.proofs.Compare.{by-less, value-refused}
 use Rattle.demands.proofs.WellFormed.{WellFormed}

@@ -1,6 +1,5 @@
 -- A walk on any index and tables: its steps are get at next, next + 1 and so on, so it gives what reads gives, and back.
 use Prim.Native.Nat.{ℕ, zero, suc, _+_, _-_, _≤_, _<_}
-use mathlib.Core.Bool.{true, false}
 use mathlib.Core.List.{List, [], _∷_}
 use mathlib.Core.Path.{_≡_, refl, sym, ap, _∙_, subst}
 use native.Mathlib.Omega.{arith}
@@ -10,7 +9,7 @@ use borrow.Author.Tests.{le-leb, lt-leb}
 use Rattle.rules.specs.declared.Cursor.{Cursor}
 use Rattle.rules.specs.Words.{Answer, value, refused}
 use Rattle.rules.specs.Record.{Index}
-use Rattle.rules.specs.Reading.{getRule, before, reads, cursor, Stepped, done, gave, stays, moved, stepRule}
+use Rattle.rules.specs.Reading.{getRule, before, reads, cursor, done, gave, moved, stepRule}
 use Rattle.demands.specs.Terms.{Walks}
 use Rattle.demands.proofs.Compare.{by-less, value-refused}
 

@@ -8,7 +8,7 @@ use borrow.Author.Tests.{lt-ltb, le-ltb}
 use Rattle.rules.specs.Words.{Facts, when-all}
 use Rattle.rules.specs.Record.{Index, lengthOf, minimumOf, segmentsOf, usedOf, widthsOf, countsHold, edge, mark, start, base, offset, width}
 use Rattle.rules.specs.Push.{deltaAt}
-use Rattle.rules.specs.Audit.{deltas, Letter, Verdict, wellFormed, flaw, testsB, testsC, testsD, testsE, testsF, Rule, rulesOf, firstFlaw, orElse, auditFrom, auditRule}
+use Rattle.rules.specs.Audit.{deltas, Letter, Verdict, wellFormed, flaw, Rule, rulesOf, firstFlaw, orElse, auditFrom, auditRule}
 use Rattle.laws.specs.Orders.{ordersOf}
 use Rattle.laws.proofs.Tests.{by-test, taken, facts-of}
 use Rattle.laws.proofs.Counts.{counts-facts, facts-counts}
