@@ -43,11 +43,12 @@ record Cut (x : Index) (v a : ℕ) : Type 0 where
   above : (p u : ℕ) → Holds x p u → a ≤ p → v ≤ u
 
 -- how many deltas lie between two marks
-pub deltas-between : (at end d w : ℕ) → 0 < w → at + d * w ≡ end → (end - at) / w ≡ d
+deltas-between : (at end d w : ℕ) → 0 < w → at + d * w ≡ end → (end - at) / w ≡ d
 deltas-between at end d w p e = let q : end - at ≡ d * w = omega arith in rw q (mul-div-cancel d p)
 
 -- the place in a segment whose base is below v: behind the base, if that is all; otherwise where the halving over its deltas splits them
 module _ (x : Index) (w : WellFormed x) (s v : ℕ) (h : s < segmentsOf x) (low : base x s < v) where
+  -- behind the base, where it is all
   place-bare : widthsOf x ≤ s → Place x s v (edge x s + 1)
   place-bare l =
       let c = w .counts in
@@ -61,26 +62,32 @@ module _ (x : Index) (w : WellFormed x) (s v : ℕ) (h : s < segmentsOf x) (low 
         above = λ i g k. absurd (omega arith);
       }
 
+  -- the test of the halving over deltas
   abbrev test : ℕ → Bool
   test = deltaBelow (x .bytes) (mark x s) (width x s) (v - base x s)
 
+  -- delta number i
   abbrev delta : ℕ → ℕ
   delta i = deltaAt (x .bytes) (mark x s + i * width x s) (width x s)
 
+  -- where the segment never falls, the test holds and then fails
   falls : Sorted x s → Falls test (deltas x s)
   falls sorted i j l k t =
       let r = sorted (suc i) (suc j) (omega arith) (omega arith) in
       let d = ltb-true (delta j) (v - base x s) t in
       lt-ltb (delta i) (v - base x s) (omega arith)
 
+  -- the values before the split are below v
   place-below : (a : ℕ) → Splits test (deltas x s) a → (i : ℕ) → edge x s + i < edge x s + 1 + a → itemOf x s i < v
   place-below a p zero g = low
   place-below a p (suc i) g = let d = ltb-true (delta i) (v - base x s) (p .before i (omega arith)) in omega arith
 
+  -- those from it on are not
   place-above : (a : ℕ) → Splits test (deltas x s) a → (i : ℕ) → edge x s + 1 + a ≤ edge x s + i → edge x s + i < edge x (s + 1) → v ≤ itemOf x s i
   place-above a p zero g k = absurd (omega arith)
   place-above a p (suc i) g k = let d = ltb-false (delta i) (v - base x s) (p .after i (omega arith) (omega arith)) in omega arith
 
+  -- so the split is the place
   place-whole : (a : ℕ) → Splits test (deltas x s) a → Place x s v (edge x s + 1 + a)
   place-whole a p =
       let step = edge-step x w s h in
@@ -242,6 +249,7 @@ module _ (x : Index) (vs : List ℕ) (k : Keeps x vs) where
       let e2 = get-holds x w p (getD vs p 0) (k .holds p (omega arith)) in
       cc
 
+  -- where the values never fall, no segment does
   sorted : NeverFalls vs → (s : ℕ) → s < segmentsOf x → Sorted x s
   sorted n s h i j l g =
       let top = edge-most x (k .well) (s + 1) (omega arith) in

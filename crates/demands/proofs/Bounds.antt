@@ -32,6 +32,7 @@ module _ (x : Index) (w : WellFormed x) where
       let top = edge-last x (widthsOf x + 1) (omega arith) in
       rw q (omega arith))
 
+  -- j segments further on, the edge is not below
   edge-rise : (i j : ℕ) → j + i ≤ segmentsOf x → edge x i ≤ edge x (j + i)
   edge-rise i zero h = let e : 0 + i ≡ i = omega arith in rw e (omega arith)
   edge-rise i (suc j) h =
@@ -48,6 +49,7 @@ module _ (x : Index) (w : WellFormed x) where
   pub edge-most : (k : ℕ) → k ≤ segmentsOf x → edge x k ≤ lengthOf x
   edge-most k h = let m = edge-mono k (segmentsOf x) h (omega arith) in let top = edge-last x (segmentsOf x) (omega arith) in omega arith
 
+  -- j + 1 segments further on, the base is at least 256^width above
   base-rise : (i j : ℕ) → j + i + 1 < segmentsOf x → base x i + 256 ^ width x i ≤ base x (j + i + 1)
   base-rise i zero h = let e : 0 + i + 1 ≡ i + 1 = omega arith in rw e (w .apart i (omega arith))
   base-rise i (suc j) h =
@@ -64,6 +66,7 @@ module _ (x : Index) (w : WellFormed x) where
   pub base-mono : (i j : ℕ) → i ≤ j → j < segmentsOf x → base x i ≤ base x j
   base-mono i j l h = by-less i j (λ b. let a = base-above i j b h in omega arith) (λ b. let e : i ≡ j = omega arith in rw e (omega arith))
 
+  -- k segments with a width have at least 2 x k values
   edge-least : (k : ℕ) → k ≤ widthsOf x → 2 * k ≤ edge x k
   edge-least zero h = omega arith
   edge-least (suc k) h =
@@ -71,6 +74,7 @@ module _ (x : Index) (w : WellFormed x) where
       let s : edge x k + 2 ≤ edge x (suc k) = rw add-one at (w .whole k h .some) in
       omega arith
 
+  -- and at most 8 bytes for each that is no base
   mark-most : (k : ℕ) → k ≤ widthsOf x → mark x k + 8 * k ≤ 8 * edge x k
   mark-most zero h = let z = w .zero-mark in omega arith
   mark-most (suc k) h =
@@ -102,6 +106,7 @@ module _ (x : Index) (w : WellFormed x) where
   pub segments-half : segmentsOf x ≤ (lengthOf x + 1) / 2
   segments-half = let c = w .counts in let l = length-least in omega arith
 
+  -- k segments further on, the base is at least k x 256^m above the first
   base-least : (k : ℕ) → k < segmentsOf x → base x 0 + k * 256 ^ minimumOf x ≤ base x k
   base-least zero h = omega arith
   base-least (suc k) h =

@@ -17,6 +17,7 @@ use Rattle.demands.proofs.Bytes.{delta-room, delta-same}
 use Rattle.demands.proofs.Get.{get-at}
 
 module _ (x : Index) (w : WellFormed x) (k : ℕ) (h : k < widthsOf x) where
+  -- a segment's bytes are its deltas times its width
   bytes-length : length (bytesOf x k) ≡ deltas x k * width x k
   bytes-length =
       let c = w .counts in
@@ -29,6 +30,7 @@ module _ (x : Index) (w : WellFormed x) (k : ℕ) (h : k < widthsOf x) where
   count : length (bytesOf x k) / width x k ≡ deltas x k
   count = let c = w .counts in let least = w .whole k h .least in rw bytes-length (mul-div-cancel (deltas x k) (omega arith))
 
+  -- a delta of the run is the segment's
   delta-part : (i : ℕ) → i < deltas x k → deltaAt (bytesOf x k) (i * width x k) (width x k) ≡ deltaAt (x .bytes) (mark x k + i * width x k) (width x k)
   delta-part i l =
       let r = delta-room (deltas x k) (width x k) i l in

@@ -49,6 +49,7 @@ module _ (m : ℕ) (starts bases offsets widths bytes : List ℕ) (m-least : 1 �
   abbrev pub n : ℕ
   n = length taken
 
+  -- the index is well formed and holds the accepted values
   kept : Keeps made taken
   kept = run-keeps us new _ small (fresh-keeps m starts bases offsets widths bytes m-least m-most)
 
@@ -120,24 +121,31 @@ module _ (m : ℕ) (starts bases offsets widths bytes : List ℕ) (m-least : 1 �
 
 -- Tables that pass the audit, however they came to be: no read answers 10, and no push does
 module _ (x : Index) (audited : auditRule x ≡ wellFormed) where
+  -- get
   pub get-never-10 : (p : ℕ) → getRule x p ≡ refused 10 → ⊥
   get-never-10 p = not-ten (getRule x p) (get-sound x (audit-well x audited) p)
 
+  -- get_range
   pub range-never-10 : (a b : ℕ) (out : List ℕ) → rangeRule x a b out .answer ≡ refused 10 → ⊥
   range-never-10 a b out = not-ten (rangeRule x a b out .answer) (range-sound x (audit-well x audited) a b out)
 
+  -- a step of a walk, from any cursor
   pub step-never-10 : (c d : Cursor) → stepRule x c ≡ stays 10 d → ⊥
   step-never-10 = step-sound x (audit-well x audited)
 
+  -- target_range
   pub target-never-10 : (p t : ℕ) → targetRule x p t ≡ refused 10 → ⊥
   target-never-10 p t = not-ten (targetRule x p t) (target-sound x (audit-well x audited) p t)
 
+  -- bisect_left
   pub bisect-never-10 : (v : ℕ) → bisectRule x v ≡ refused 10 → ⊥
   bisect-never-10 v = not-ten (bisectRule x v) (bisect-sound x (audit-well x audited) v)
 
+  -- bisect_range_left
   pub bisect-range-never-10 : (a b v : ℕ) → bisectRangeRule x a b v ≡ refused 10 → ⊥
   bisect-range-never-10 a b v = not-ten (bisectRangeRule x a b v) (bisect-range-sound x (audit-well x audited) a b v)
 
+  -- push, of any value
   pub push-never-10 : (v : ℕ) → pushRule x v .answer ≡ refused 10 → ⊥
   push-never-10 v q = let e = refused-most x (audit-well x audited) v 10 q in omega arith
 

@@ -18,10 +18,10 @@ use Rattle.demands.proofs.Holds.{itemOf, Holds}
 use Rattle.demands.proofs.Search.{upto-within, upto-last, upto-next}
 
 -- position p lies in segment s
-pub record In (x : Index) (s p : ℕ) : Type 0 where
-  pub inside : s < segmentsOf x
-  pub from : edge x s ≤ p
-  pub before : p < edge x (s + 1)
+record In (x : Index) (s p : ℕ) : Type 0 where
+  inside : s < segmentsOf x
+  from : edge x s ≤ p
+  before : p < edge x (s + 1)
 
 module _ (x : Index) (w : WellFormed x) where
   -- no segment before another has its positions
@@ -57,7 +57,7 @@ module _ (x : Index) (w : WellFormed x) where
       (pos, record { inside = omega arith; from = omega arith; before = rw back above })
 
   -- a segment with a delta has a width
-  pub has-width : (s i : ℕ) → s < segmentsOf x → edge x s + suc i < edge x (s + 1) → s < widthsOf x
+  has-width : (s i : ℕ) → s < segmentsOf x → edge x s + suc i < edge x (s + 1) → s < widthsOf x
   has-width s i h l =
       let c = w .counts in
       by-less s (widthsOf x) (λ g. g)

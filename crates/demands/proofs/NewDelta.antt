@@ -38,12 +38,15 @@ pub record Appended (x : Index) (v wide d n : ℕ) (ws : List ℕ) : Type 0 wher
   pub fits : (i : ℕ) → i < lengthOf x - edge x (lastOf x) - 1 → base x (lastOf x) + deltaAt (x .bytes) (mark x (lastOf x) + i * wide) wide < 2 ^ 64
 
 module _ (x : Index) (w : WellFormed x) (v wide d n : ℕ) (ws : List ℕ) (g : Appended x v wide d n ws) where
+  -- the last segment
   abbrev k : ℕ
   k = lastOf x
 
+  -- the data bytes after the push
   abbrev ds : List ℕ
   ds = sets (x .bytes) (usedOf x) (deltaBytes wide d)
 
+  -- the index after the push
   abbrev y : Index
   y = index (grown (x .state) (segmentsOf x) n (usedOf x + wide)) (x .starts) (x .bases) (x .offsets) ws ds
 
@@ -51,24 +54,31 @@ module _ (x : Index) (w : WellFormed x) (v wide d n : ℕ) (ws : List ℕ) (g : 
   abbrev had : ℕ
   had = lengthOf x - edge x k - 1
 
+  -- no edge up to the last segment moves
   edge-kept : (j : ℕ) → j ≤ k → edge y j ≡ edge x j
   edge-kept j h = let l = g .some in edge-at y j (omega arith) ∙ sym (edge-at x j (omega arith))
 
+  -- nor mark
   mark-kept : (j : ℕ) → j ≤ k → mark y j ≡ mark x j
   mark-kept j h = let l = g .some in mark-at y j (omega arith) ∙ sym (mark-at x j (omega arith))
 
+  -- the edge after it moves by one
   edge-end : edge y (k + 1) ≡ lengthOf x + 1
   edge-end = let l = g .some in edge-last y (k + 1) (omega arith)
 
+  -- the mark after it by the width
   mark-end : mark y (k + 1) ≡ usedOf x + wide
   mark-end = let l = g .some in mark-last y (k + 1) (omega arith)
 
+  -- the used bytes stay
   bytes-kept : (i : ℕ) → i < usedOf x → getD ds i 0 ≡ getD (x .bytes) i 0
   bytes-kept i h = sets-before (deltaBytes wide d) (x .bytes) (usedOf x) i h
 
+  -- the bytes stored are the delta
   stored : deltaAt ds (usedOf x) wide ≡ d
   stored = delta-stored wide d (usedOf x) (x .bytes) (g .room .0) (g .holds)
 
+  -- the counts rule still holds
   counts-new : Facts (ordersOf y)
   counts-new =
       let c = w .counts in
@@ -83,6 +93,7 @@ module _ (x : Index) (w : WellFormed x) (v wide d n : ℕ) (ws : List ℕ) (g : 
       let f = g .full in
       delta-kept ds (x .bytes) (usedOf x) (mark x k + i * wide) wide bytes-kept (omega arith)
 
+  -- every base + delta fits: those before, and v
   fits-new : (i : ℕ) → i < lengthOf x + 1 - edge x k - 1 → base x k + deltaAt ds (mark x k + i * wide) wide < 2 ^ 64
   fits-new i h =
       let b = g .below in
@@ -90,6 +101,7 @@ module _ (x : Index) (w : WellFormed x) (v wide d n : ℕ) (ws : List ℕ) (g : 
       (λ l. rw (delta-there i l) (g .fits i l))
       (λ l. let e : i ≡ had = omega arith in rw (e, g .full, stored, g .sum) (g .small))
 
+  -- the last segment is whole
   whole-last : WholeAt y k
   whole-last =
       rw (edge-kept k (omega arith), mark-kept k (omega arith), edge-end, mark-end, g .here)
@@ -102,6 +114,7 @@ module _ (x : Index) (w : WellFormed x) (v wide d n : ℕ) (ws : List ℕ) (g : 
         fits = fits-new;
       })
 
+  -- and so are the others
   whole-new : (j : ℕ) → j < n → WholeAt y j
   whole-new j h =
       let c = w .counts in
@@ -112,6 +125,7 @@ module _ (x : Index) (w : WellFormed x) (v wide d n : ℕ) (ws : List ℕ) (g : 
       (mark-kept j (omega arith)) (mark-kept (j + 1) (omega arith)) (omega arith) bytes-kept)
       (λ l. let e : j ≡ k = omega arith in rw e whole-last)
 
+  -- the audit still passes
   delta-well : WellFormed y
   delta-well = record {
     counts = counts-new;
@@ -122,6 +136,7 @@ module _ (x : Index) (w : WellFormed x) (v wide d n : ℕ) (ws : List ℕ) (g : 
     apart = λ j h. rw (g .widths j (omega arith)) (w .apart j h);
   }
 
+  -- a segment's values stay
   item-kept : (s i : ℕ) → s ≤ k → edge x s + i < edge x (s + 1) → item ds (base x s) (mark x s) (getD ws s 0) i ≡ itemOf x s i
   item-kept s zero l h = refl
   item-kept s (suc i) l h =
@@ -141,6 +156,7 @@ module _ (x : Index) (w : WellFormed x) (v wide d n : ℕ) (ws : List ℕ) (g : 
       let i-had : i < had = omega arith in
       rw (e, g .here, g .before (omega arith), delta-there i i-had))
 
+  -- the index holds what it held
   delta-old : (p u : ℕ) → Holds x p u → Holds y p u
   delta-old p u h =
       let i = h .inside in
@@ -158,6 +174,7 @@ module _ (x : Index) (w : WellFormed x) (v wide d n : ℕ) (ws : List ℕ) (g : 
         is = rw (mark-kept (h .seg) (omega arith)) (item-kept (h .seg) (h .nth) (omega arith) (omega arith) ∙ h .is);
       }
 
+  -- and v at the end
   delta-new : Holds y (lengthOf x) v
   delta-new =
       let l = g .some in

@@ -24,21 +24,27 @@ entry-kept t n e more k r h =
 
 module _ (x : Index) (w : WellFormed x) (v : ℕ) (all : widthsOf x ≡ segmentsOf x) (room : Facts (segmentRoom (x .state) (roomOf x)))
     (gap : (k : ℕ) → k + 1 ≡ segmentsOf x → base x k + 256 ^ width x k ≤ v) where
+  -- the index after the push
   abbrev y : Index
   y = withSegment x v
 
+  -- no edge up to the last moves
   edge-kept : (k : ℕ) → k ≤ segmentsOf x → edge y k ≡ edge x k
   edge-kept k h = entry-kept (x .starts) (segmentsOf x) (lengthOf x) (lengthOf x + 1) k (omega arith) h
 
+  -- nor mark
   mark-kept : (k : ℕ) → k ≤ segmentsOf x → mark y k ≡ mark x k
   mark-kept k h = entry-kept (x .offsets) (segmentsOf x) (usedOf x) (usedOf x) k (omega arith) h
 
+  -- nor base
   base-kept : (k : ℕ) → k < segmentsOf x → base y k ≡ base x k
   base-kept k h = getD-set-other (x .bases) (segmentsOf x) k v 0 (λ e. omega arith)
 
+  -- the new base is v
   base-new : base y (segmentsOf x) ≡ v
   base-new = getD-set-same (x .bases) (segmentsOf x) v 0 (omega arith)
 
+  -- the counts rule still holds
   counts-new : Facts (ordersOf y)
   counts-new =
       let c = w .counts in
@@ -47,11 +53,13 @@ module _ (x : Index) (w : WellFormed x) (v : ℕ) (all : widthsOf x ≡ segments
       let e3 = length-set (x .offsets) (segmentsOf x) (usedOf x) in
       omega arith
 
+  -- the segments before stay whole
   whole-new : (k : ℕ) → k < widthsOf x → WholeAt y k
   whole-new k h =
       whole-kept (w .whole k h) (base-kept k (omega arith)) refl (edge-kept k (omega arith)) (edge-kept (k + 1) (omega arith))
       (mark-kept k (omega arith)) (mark-kept (k + 1) (omega arith)) (omega arith) (λ i l. refl)
 
+  -- and the new base is far enough from theirs
   apart-new : (k : ℕ) → k + 1 < segmentsOf x + 1 → base y k + 256 ^ width x k ≤ base y (k + 1)
   apart-new k h =
       by-less (k + 1) (segmentsOf x)
@@ -61,6 +69,7 @@ module _ (x : Index) (w : WellFormed x) (v : ℕ) (all : widthsOf x ≡ segments
       let b : base y (k + 1) ≡ v = rw e base-new in
       rw (base-kept k (omega arith), b) (gap k e))
 
+  -- the audit still passes
   segment-well : WellFormed y
   segment-well = record {
     counts = counts-new;
@@ -74,6 +83,7 @@ module _ (x : Index) (w : WellFormed x) (v : ℕ) (all : widthsOf x ≡ segments
     apart = apart-new;
   }
 
+  -- the index holds what it held
   segment-old : (p u : ℕ) → Holds x p u → Holds y p u
   segment-old p u h =
       let i = h .inside in
@@ -86,6 +96,7 @@ module _ (x : Index) (w : WellFormed x) (v : ℕ) (all : widthsOf x ≡ segments
         is = rw (base-kept (h .seg) i, mark-kept (h .seg) (omega arith)) (h .is);
       }
 
+  -- and v at the end
   segment-new : Holds y (lengthOf x) v
   segment-new = record {
     seg = segmentsOf x;

@@ -59,6 +59,7 @@ need-above : (d m w : ℕ) → d < 2 ^ 64 → 0 < w → m ≤ w → (needOf d m 
 need-above d m w s p h never = by-less d (256 ^ w) (λ l. let q = width-least d w s p l in absurd (never (omega arith))) (λ l. l)
 
 module _ (x : Index) (w : WellFormed x) (v : ℕ) where
+  -- where a new segment is due, widths is segments, so 2 x segments <= length and there is room
   segment-allowed : widthsOf x ≡ segmentsOf x → (v < 2 ^ 64 → (k : ℕ) → k + 1 ≡ segmentsOf x → base x k + 256 ^ width x k ≤ v)
       → Allowed x v (segmentPlan (x .state) (roomOf x))
   unfolding segmentPlan
@@ -67,6 +68,7 @@ module _ (x : Index) (w : WellFormed x) (v : ℕ) where
       (λ f. record { all = all; room = f; gap = gap })
       (λ never. (omega arith, λ n l r. absurd (never (let s = length-least x w in omega arith))))
 
+  -- where a first delta is due, the last segment has no width
   first-allowed : widthsOf x + 1 ≡ segmentsOf x → Allowed x v (firstPlan (x .state) (roomOf x) (base x (lastOf x)) v)
   unfolding firstPlan
   first-allowed last =
@@ -92,6 +94,7 @@ module _ (x : Index) (w : WellFormed x) (v : ℕ) where
       (λ never. (omega arith, λ n l r. absurd (never (omega arith)))))
       (λ never. (omega arith, λ n l r. refl))
 
+  -- where the last segment has a width, the audit bounds it, so this is never 10
   next-allowed : widthsOf x ≡ segmentsOf x → 1 ≤ segmentsOf x → Allowed x v (nextPlan (x .state) (roomOf x) (base x (lastOf x)) (width x (lastOf x)) v)
   unfolding nextPlan
   next-allowed all some =

@@ -18,7 +18,7 @@ use Rattle.demands.proofs.Bisect.{bisect-counts}
 
 module _ (x : Index) (w : WellFormed x) where
   -- a range within length is not refused 9, 6 or 7
-  pub in-range : {A : Type 0} (a b : ℕ) (rest : Answer A) → a ≤ b → b ≤ lengthOf x → inRange x a b rest ≡ rest
+  in-range : {A : Type 0} (a b : ℕ) (rest : Answer A) → a ≤ b → b ≤ lengthOf x → inRange x a b rest ≡ rest
   in-range a b rest h l = rw (counted x w, le-leb b (lengthOf x) l, le-leb a b h)
 
   -- the reads within length are values

@@ -36,6 +36,7 @@ unfolding run pushRule
 run-length [] x = omega arith
 run-length (v ∷ us) x = let r = run-length us (pushRule x v .left) in let l = length-most x v (planOf x v) in omega arith
 
+-- a plan that is refused is that refusal
 plan-refused : (x : Index) (v e : ℕ) (p : Plan) → Allowed x v p → effect x v p .answer ≡ refused e → Allowed x v (refuse e)
 plan-refused x v e (refuse f) a q = let t : f ≡ e = cc in rw t at a
 plan-refused x v e segment a q = value-refused q

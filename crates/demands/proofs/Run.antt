@@ -53,6 +53,7 @@ keeps-more x y vs v k o =
     }
 
 module _ (x : Index) (vs : List ℕ) (k : Keeps x vs) (v : ℕ) (small : v < 2 ^ 64) where
+  -- each plan keeps the audit and what the index holds
   plan-keeps : (p : Plan) → Allowed x v p → Keeps (effect x v p .left) (vs ++ ifTaken (effect x v p .answer) v [])
   plan-keeps (refuse e) a = rw append-nil k
   plan-keeps segment a = keeps-more x _ vs v k (more-segment x (k .well) v small a)
@@ -60,10 +61,11 @@ module _ (x : Index) (vs : List ℕ) (k : Keeps x vs) (v : ℕ) (small : v < 2 ^
   plan-keeps (more d wide) a = keeps-more x _ vs v k (more-delta x (k .well) v small d wide a)
 
   -- an accepted push puts its value behind the others, a refused one leaves them
-  pub push-keeps : Keeps (pushRule x v .left) (vs ++ ifTaken (pushRule x v .answer) v [])
+  push-keeps : Keeps (pushRule x v .left) (vs ++ ifTaken (pushRule x v .answer) v [])
   unfolding pushRule
   push-keeps = plan-keeps (planOf x v) (plan-allowed x (k .well) v)
 
+-- the accepted values so far, then those to come
 taken-front : (a : Answer ℕ) (vs us : List ℕ) (v : ℕ) → vs ++ ifTaken a v [] ++ us ≡ vs ++ ifTaken a v us
 taken-front (value p) vs us v = append-assoc vs (v ∷ []) us
 taken-front (refused e) vs us v = append-assoc vs [] us

@@ -7,6 +7,7 @@ use Rattle.rules.specs.Reading.{halving, atMost}
 use Rattle.laws.proofs.Halving.{halving-edge}
 
 module _ (table : List ℕ) (n v : ℕ) where
+  -- its answer
   abbrev k : ℕ
   k = halving (atMost table v) n .number
 

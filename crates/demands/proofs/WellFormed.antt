@@ -100,12 +100,15 @@ mark-last x k h = rw (le-ltb k (segmentsOf x) h)
 
 -- the facts of each segment from its rules B to F
 module _ (x : Index) (c : Facts (ordersOf x)) (f : (j : ℕ) → j < segmentsOf x → RuleFacts (rulesOf x j)) where
+  -- the first start is 0
   zero-edge-of : edge x 0 ≡ 0
   zero-edge-of = by-less 0 (segmentsOf x) (λ l. f 0 l .0 .0 refl) (λ l. edge-last x 0 l ∙ omega arith)
 
+  -- the first offset is 0
   zero-mark-of : mark x 0 ≡ 0
   zero-mark-of = by-less 0 (segmentsOf x) (λ l. f 0 l .1 .1 .1 .0 .0 refl) (λ l. mark-last x 0 l ∙ omega arith)
 
+  -- a segment with a width
   whole-of : (k : ℕ) → k < widthsOf x → WholeAt x k
   whole-of k h =
       let g = f k (omega arith) in
@@ -120,6 +123,7 @@ module _ (x : Index) (c : Facts (ordersOf x)) (f : (j : ℕ) → j < segmentsOf 
         fits = g .1 .1 .1 .1 .0 .0 h;
       }
 
+  -- the segment without one
   bare-of : widthsOf x < segmentsOf x → (edge x (widthsOf x) + 1 ≡ lengthOf x) × (mark x (widthsOf x) ≡ usedOf x)
   bare-of h =
       let g = f (widthsOf x) h in
@@ -129,6 +133,7 @@ module _ (x : Index) (c : Facts (ordersOf x)) (f : (j : ℕ) → j < segmentsOf 
       let top = edge-last x (widthsOf x + 1) (omega arith) in
       (omega arith, e .1 .1 .1 .0 (omega arith))
 
+  -- all of them
   well-of : WellFormed x
   well-of = record {
     counts = c;
@@ -154,18 +159,22 @@ p & q = (p, q)
 
 -- the rules B to F of segment k from the facts
 module _ (x : Index) (w : WellFormed x) (k : ℕ) (h : k < segmentsOf x) where
+  -- there is one segment without a width
   at-bare : widthsOf x ≤ k → k ≡ widthsOf x
   at-bare l = let c = w .counts in omega arith
 
+  -- the last start is below length
   below-length : segmentsOf x ≤ k + 1 → edge x k < lengthOf x
   below-length l =
       by-less k (widthsOf x)
       (λ g. let s = w .whole k g .some in let top = edge-last x (k + 1) l in omega arith)
       (λ g. let b = w .bare (omega arith) in rw (at-bare g) (omega arith))
 
+  -- a segment without a width has no deltas
   no-deltas : widthsOf x ≤ k → deltas x k ≡ 0
   no-deltas l = let b = w .bare (omega arith) .0 in let top = edge-last x (widthsOf x + 1) (omega arith) in rw (at-bare l) (omega arith)
 
+  -- B to F
   rules-hold : RuleFacts (rulesOf x k)
   rules-hold =
       let c = w .counts in
