@@ -52,8 +52,7 @@ module _ (x : Index) (w : WellFormed x) (s v : ℕ) (h : s < segmentsOf x) (low 
   place-bare : widthsOf x ≤ s → Place x s v (edge x s + 1)
   place-bare l =
       let c = w .counts in
-      let e : s ≡ widthsOf x = omega arith in
-      let b : edge x s + 1 ≡ lengthOf x = rw e (w .bare (omega arith) .0) in
+      let b = w .bare s l h .0 in
       let top = edge-last x (s + 1) (omega arith) in
       record {
         from = omega arith;

@@ -8,7 +8,7 @@ use native.Mathlib.Nat.{pow-le-pow-right, mul-le-mul-left, suc-mul, le-div-iff-m
 use lib.Dec.{lit<}
 use Rattle.rules.specs.Record.{Index, lengthOf, minimumOf, segmentsOf, usedOf, widthsOf, lastOf, countsHold, edge, mark, base, width}
 use Rattle.laws.proofs.Counts.{facts-counts}
-use Rattle.demands.proofs.Compare.{by-less}
+use Rattle.demands.proofs.Compare.{by-less, rises}
 use Rattle.demands.proofs.WellFormed.{WellFormed, edge-last, mark-last}
 
 -- one segment more: at most 8 bytes for each of its d deltas
@@ -26,45 +26,23 @@ module _ (x : Index) (w : WellFormed x) where
       let c = w .counts in
       by-less k (widthsOf x)
       (λ l. let s = w .whole k l .some in omega arith)
-      (λ l.
-      let q : k ≡ widthsOf x = omega arith in
-      let b = w .bare (omega arith) .0 in
-      let top = edge-last x (widthsOf x + 1) (omega arith) in
-      rw q (omega arith))
-
-  -- j segments further on, the edge is not below
-  edge-rise : (i j : ℕ) → j + i ≤ segmentsOf x → edge x i ≤ edge x (j + i)
-  edge-rise i zero h = let e : 0 + i ≡ i = omega arith in rw e (omega arith)
-  edge-rise i (suc j) h =
-      let r = edge-rise i j (omega arith) in
-      let s = edge-step (j + i) (omega arith) in
-      let e : suc j + i ≡ j + i + 1 = omega arith in
-      rw e (omega arith)
+      (λ l. let b = w .bare k l h .0 in let top = edge-last x (k + 1) (omega arith) in omega arith)
 
   -- edges never fall
   pub edge-mono : (i j : ℕ) → i ≤ j → j ≤ segmentsOf x → edge x i ≤ edge x j
-  edge-mono i j h l = let e : j - i + i ≡ j = omega arith in rw e at (edge-rise i (j - i) (omega arith))
+  edge-mono = rises (edge x) (segmentsOf x) (λ k h. let s = edge-step k h in omega arith)
 
   -- and end at length
   pub edge-most : (k : ℕ) → k ≤ segmentsOf x → edge x k ≤ lengthOf x
   edge-most k h = let m = edge-mono k (segmentsOf x) h (omega arith) in let top = edge-last x (segmentsOf x) (omega arith) in omega arith
 
-  -- j + 1 segments further on, the base is at least 256^width above
-  base-rise : (i j : ℕ) → j + i + 1 < segmentsOf x → base x i + 256 ^ width x i ≤ base x (j + i + 1)
-  base-rise i zero h = let e : 0 + i + 1 ≡ i + 1 = omega arith in rw e (w .apart i (omega arith))
-  base-rise i (suc j) h =
-      let r = base-rise i j (omega arith) in
-      let a = w .apart (j + i + 1) (omega arith) in
-      let e : suc j + i + 1 ≡ j + i + 1 + 1 = omega arith in
-      rw e (omega arith)
+  -- bases never fall
+  pub base-mono : (i j : ℕ) → i ≤ j → j < segmentsOf x → base x i ≤ base x j
+  base-mono i j l h = rises (base x) (lastOf x) (λ k g. let a = w .apart k (omega arith) in omega arith) i j l (omega arith)
 
   -- a later base is at least 256^width above
   pub base-above : (i j : ℕ) → i < j → j < segmentsOf x → base x i + 256 ^ width x i ≤ base x j
-  base-above i j l h = let e : j - i - 1 + i + 1 ≡ j = omega arith in rw e at (base-rise i (j - i - 1) (omega arith))
-
-  -- bases never fall
-  pub base-mono : (i j : ℕ) → i ≤ j → j < segmentsOf x → base x i ≤ base x j
-  base-mono i j l h = by-less i j (λ b. let a = base-above i j b h in omega arith) (λ b. let e : i ≡ j = omega arith in rw e (omega arith))
+  base-above i j l h = let a = w .apart i (omega arith) in let m = base-mono (i + 1) j (omega arith) h in omega arith
 
   -- k segments with a width have at least 2 x k values
   edge-least : (k : ℕ) → k ≤ widthsOf x → 2 * k ≤ edge x k
@@ -87,7 +65,7 @@ module _ (x : Index) (w : WellFormed x) where
   widths-end =
       let c = w .counts in
       by-less (widthsOf x) (segmentsOf x)
-      (λ l. let b = w .bare l in let b0 = b .0 in (omega arith, b .1))
+      (λ l. let b = w .bare (widthsOf x) (omega arith) l in let b0 = b .0 in (omega arith, b .1))
       (λ l. let e = edge-last x (widthsOf x) l in (omega arith, mark-last x (widthsOf x) l))
 
   -- two values or more for each segment with a width, one for the other

@@ -61,10 +61,7 @@ module _ (x : Index) (w : WellFormed x) where
   has-width s i h l =
       let c = w .counts in
       by-less s (widthsOf x) (λ g. g)
-      (λ g.
-      let e : s ≡ widthsOf x = omega arith in
-      let b : edge x s + 1 ≡ lengthOf x = rw e (w .bare (omega arith) .0) in
-      let top = edge-last x (s + 1) (omega arith) in absurd (omega arith))
+      (λ g. let b = w .bare s g h .0 in let top = edge-last x (s + 1) (omega arith) in absurd (omega arith))
 
   -- a read in the right segment
   read-in : (s i : ℕ) → s < segmentsOf x → edge x s + i < edge x (s + 1) → readIn x s (edge x s + i) ≡ value (itemOf x s i)

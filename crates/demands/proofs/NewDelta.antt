@@ -132,7 +132,7 @@ module _ (x : Index) (w : WellFormed x) (v wide d n : ℕ) (ws : List ℕ) (g : 
     zero-edge = edge-kept 0 (omega arith) ∙ w .zero-edge;
     zero-mark = mark-kept 0 (omega arith) ∙ w .zero-mark;
     whole = whole-new;
-    bare = λ h. let l = g .all in absurd (omega arith);
+    bare = λ j l h. let a = g .all in absurd (omega arith);
     apart = λ j h. rw (g .widths j (omega arith)) (w .apart j h);
   }
 

@@ -76,10 +76,10 @@ module _ (x : Index) (w : WellFormed x) (v : ℕ) (all : widthsOf x ≡ segments
     zero-edge = edge-kept 0 (omega arith) ∙ w .zero-edge;
     zero-mark = mark-kept 0 (omega arith) ∙ w .zero-mark;
     whole = whole-new;
-    bare = λ h.
-        let e = edge-kept (widthsOf x) (omega arith) in
-        let f = edge-last x (widthsOf x) (omega arith) in
-        (omega arith, mark-kept (widthsOf x) (omega arith) ∙ mark-last x (widthsOf x) (omega arith));
+    bare = λ k l h.
+        let e = edge-kept k (omega arith) in
+        let f = edge-last x k (omega arith) in
+        (omega arith, mark-kept k (omega arith) ∙ mark-last x k (omega arith));
     apart = apart-new;
   }
 

@@ -150,9 +150,9 @@ module _ (x : Index) (w : WellFormed x) (v : ℕ) (small : v < 2 ^ 64) where
   more-first d need a =
       let c = w .counts in
       let e : lastOf x ≡ widthsOf x = omega arith in
-      let b = w .bare (omega arith) in
-      let low : edge x (lastOf x) + 1 ≡ lengthOf x = rw e (b .0) in
-      let end : mark x (lastOf x) ≡ usedOf x = rw e (b .1) in
+      let b = w .bare (lastOf x) (omega arith) (omega arith) in
+      let low = b .0 in
+      let end = b .1 in
       let none : lengthOf x - edge x (lastOf x) - 1 ≡ 0 = omega arith in
       delta-more x w v need d _ _
       (record {

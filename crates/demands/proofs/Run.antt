@@ -30,7 +30,7 @@ fresh-keeps m s b o w d h l = record {
     zero-edge = refl;
     zero-mark = refl;
     whole = λ k g. absurd (omega arith);
-    bare = λ g. absurd (omega arith);
+    bare = λ k l g. absurd (omega arith);
     apart = λ k g. absurd (omega arith);
   };
   bytes = λ i g. absurd (omega arith);

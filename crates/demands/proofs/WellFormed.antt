@@ -33,7 +33,7 @@ pub record WellFormed (x : Index) : Type 0 where
   pub zero-edge : edge x 0 ≡ 0
   pub zero-mark : mark x 0 ≡ 0
   pub whole : (k : ℕ) → k < widthsOf x → WholeAt x k
-  pub bare : widthsOf x < segmentsOf x → (edge x (widthsOf x) + 1 ≡ lengthOf x) × (mark x (widthsOf x) ≡ usedOf x)
+  pub bare : (k : ℕ) → widthsOf x ≤ k → k < segmentsOf x → (edge x k + 1 ≡ lengthOf x) × (mark x k ≡ usedOf x)
   pub apart : (k : ℕ) → k + 1 < segmentsOf x → base x k + 256 ^ width x k ≤ base x (k + 1)
 
 -- the rules of a list, as facts
@@ -112,26 +112,29 @@ module _ (x : Index) (c : Facts (ordersOf x)) (f : (j : ℕ) → j < segmentsOf 
   whole-of : (k : ℕ) → k < widthsOf x → WholeAt x k
   whole-of k h =
       let g = f k (omega arith) in
-      let e = g .1 .1 .1 .0 in
-      let some = e .1 .1 .1 .1 .1 .0 h in
+      let rule-c = g .1 .0 in
+      let rule-e = g .1 .1 .1 .0 in
+      let rule-f = g .1 .1 .1 .1 .0 in
+      let one = rule-e .1 .1 .1 .1 .1 .0 h in
       record {
-        least = g .1 .0 .0 h;
-        most = g .1 .0 .1 .0 h;
+        least = rule-c .0 h;
+        most = rule-c .1 .0 h;
         some = omega arith;
-        ends = e .1 .0 h;
-        inside = e .1 .1 .0 h;
-        fits = g .1 .1 .1 .1 .0 .0 h;
+        ends = rule-e .1 .0 h;
+        inside = rule-e .1 .1 .0 h;
+        fits = rule-f .0 h;
       }
 
   -- the segment without one
-  bare-of : widthsOf x < segmentsOf x → (edge x (widthsOf x) + 1 ≡ lengthOf x) × (mark x (widthsOf x) ≡ usedOf x)
-  bare-of h =
-      let g = f (widthsOf x) h in
-      let e = g .1 .1 .1 .0 in
-      let low = g .0 .1 .1 .0 (omega arith) in
-      let none = e .1 .1 .1 .1 .0 (omega arith) in
-      let top = edge-last x (widthsOf x + 1) (omega arith) in
-      (omega arith, e .1 .1 .1 .0 (omega arith))
+  bare-of : (k : ℕ) → widthsOf x ≤ k → k < segmentsOf x → (edge x k + 1 ≡ lengthOf x) × (mark x k ≡ usedOf x)
+  bare-of k l h =
+      let g = f k h in
+      let rule-b = g .0 in
+      let rule-e = g .1 .1 .1 .0 in
+      let low = rule-b .1 .1 .0 (omega arith) in
+      let none = rule-e .1 .1 .1 .1 .0 l in
+      let top = edge-last x (k + 1) (omega arith) in
+      (omega arith, rule-e .1 .1 .1 .0 l)
 
   -- all of them
   well-of : WellFormed x
@@ -159,20 +162,16 @@ p & q = (p, q)
 
 -- the rules B to F of segment k from the facts
 module _ (x : Index) (w : WellFormed x) (k : ℕ) (h : k < segmentsOf x) where
-  -- there is one segment without a width
-  at-bare : widthsOf x ≤ k → k ≡ widthsOf x
-  at-bare l = let c = w .counts in omega arith
-
   -- the last start is below length
   below-length : segmentsOf x ≤ k + 1 → edge x k < lengthOf x
   below-length l =
       by-less k (widthsOf x)
       (λ g. let s = w .whole k g .some in let top = edge-last x (k + 1) l in omega arith)
-      (λ g. let b = w .bare (omega arith) in rw (at-bare g) (omega arith))
+      (λ g. let b = w .bare k g h .0 in omega arith)
 
   -- a segment without a width has no deltas
   no-deltas : widthsOf x ≤ k → deltas x k ≡ 0
-  no-deltas l = let b = w .bare (omega arith) .0 in let top = edge-last x (widthsOf x + 1) (omega arith) in rw (at-bare l) (omega arith)
+  no-deltas l = let c = w .counts in let b = w .bare k l h .0 in let top = edge-last x (k + 1) (omega arith) in omega arith
 
   -- B to F
   rules-hold : RuleFacts (rulesOf x k)
@@ -182,7 +181,7 @@ module _ (x : Index) (w : WellFormed x) (k : ℕ) (h : k < segmentsOf x) where
       & ((λ l. w .whole k l .least) & (λ l. w .whole k l .most) & tt)
       & (w .apart k & tt)
       & ((λ z. ap (mark x) z ∙ w .zero-mark) & (λ l. w .whole k l .ends) & (λ l. w .whole k l .inside)
-      & (λ l. rw (at-bare l) (w .bare (omega arith) .1)) & no-deltas & (λ l. let s = w .whole k l .some in omega arith) & tt)
+      & (λ l. w .bare k l h .1) & no-deltas & (λ l. let s = w .whole k l .some in omega arith) & tt)
       & ((λ l. w .whole k l .fits) & tt)
       & tt
 
