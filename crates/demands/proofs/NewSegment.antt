@@ -22,8 +22,12 @@ entry-kept t n e more k r h =
     (λ l. rw (lt-ltb k (n + 1) (omega arith), lt-ltb k n l) (getD-set-other t n k e 0 (λ q. omega arith)))
     (λ l. let q : k ≡ n = omega arith in rw (q, lt-ltb n (n + 1) (omega arith), le-ltb n n (omega arith)) (getD-set-same t n e 0 r))
 
+-- v is at least 256^width above the last base, if there is one
+abbrev pub Gap : Index → ℕ → Type 0
+Gap x v = (k : ℕ) → k + 1 ≡ segmentsOf x → base x k + 256 ^ width x k ≤ v
+
 module _ (x : Index) (w : WellFormed x) (v : ℕ) (all : widthsOf x ≡ segmentsOf x) (room : Facts (segmentRoom (x .state) (roomOf x)))
-    (gap : (k : ℕ) → k + 1 ≡ segmentsOf x → base x k + 256 ^ width x k ≤ v) where
+    (gap : Gap x v) where
   -- the index after the push
   abbrev y : Index
   y = withSegment x v

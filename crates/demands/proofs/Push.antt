@@ -3,52 +3,30 @@ use Prim.Native.Nat.{ℕ, _+_, _-_, _^_, _≤_, _<_}
 use mathlib.Core.List.{[], _∷_}
 use mathlib.Core.Path.{_≡_, refl}
 use native.Mathlib.Omega.{arith}
-use native.Mathlib.Nat.{pow-le-pow-right, lt-of-lt-of-le, zero-mul}
+use native.Mathlib.Nat.{pow-le-pow-right, lt-of-lt-of-le}
 use lib.Dec.{ltb, eqb, lit<}
-use lib.ListN.{length, length-set}
+use lib.ListN.{length, set, length-set}
 use lib.Seq.{getD-set-same, getD-set-other}
 use borrow.Author.Tests.{ltb-true, ltb-false, eqb-true, eqb-false}
 use Rattle.rules.specs.Words.{_≤?_, _<?_, Facts}
-use Rattle.rules.specs.Record.{Index, lengthOf, minimumOf, segmentsOf, usedOf, widthsOf, lastOf, roomOf, widthTests, edge, mark, base, width}
+use Rattle.rules.specs.Record.{Index, lengthOf, minimumOf, segmentsOf, widthsOf, lastOf, roomOf, widthTests, base, width}
 use Rattle.rules.specs.Push.{needOf, Plan, refuse, segment, first, more, segmentRoom, dataRoom, segmentPlan, firstPlan, nextPlan, planOf, withSegment, withFirst, withMore}
 use Rattle.laws.proofs.Tests.{pick-case, if-case}
 use Rattle.laws.proofs.Widths.{width-holds, width-least, width-most}
 use Rattle.demands.specs.Terms.{RoomFor}
 use Rattle.demands.proofs.Compare.{by-less}
-use Rattle.demands.proofs.WellFormed.{WellFormed, edge-last, mark-last}
+use Rattle.demands.proofs.WellFormed.{WellFormed}
 use Rattle.demands.proofs.Bounds.{counted, length-least, used-most}
 use Rattle.demands.proofs.Holds.{OneMore}
-use Rattle.demands.proofs.NewSegment.{segment-more}
-use Rattle.demands.proofs.NewDelta.{delta-more}
+use Rattle.demands.proofs.NewSegment.{Gap, segment-more}
+use Rattle.demands.proofs.NewDelta.{Storable, Last, last-bare, last-whole, delta-more}
 
--- what a plan may rely on; a refusal is 1 to 4, and with room for a value more it is 1
+-- what a plan may rely on: a refusal is 1 to 4, and with room for a value more it is 1
 abbrev pub Allowed : Index → ℕ → Plan → Type 0
 Allowed x v (refuse e) = (e ≤ 4) × ((n : ℕ) → lengthOf x < n → RoomFor (roomOf x) n → e ≡ 1)
-Allowed x v segment =
-    record {
-      all : widthsOf x ≡ segmentsOf x;
-      room : Facts (segmentRoom (x .state) (roomOf x));
-      gap : v < 2 ^ 64 → (k : ℕ) → k + 1 ≡ segmentsOf x → base x k + 256 ^ width x k ≤ v;
-    }
-Allowed x v (first d need) =
-    record {
-      last : widthsOf x + 1 ≡ segmentsOf x;
-      sum : base x (lastOf x) + d ≡ v;
-      least : minimumOf x ≤ need;
-      most : need ≤ 8;
-      holds : v < 2 ^ 64 → d < 256 ^ need;
-      entry : widthsOf x < length (x .widths);
-      room : Facts (dataRoom (x .state) (roomOf x) need);
-    }
-Allowed x v (more d wide) =
-    record {
-      all : widthsOf x ≡ segmentsOf x;
-      some : 1 ≤ segmentsOf x;
-      sum : base x (lastOf x) + d ≡ v;
-      is : width x (lastOf x) ≡ wide;
-      holds : v < 2 ^ 64 → d < 256 ^ wide;
-      room : Facts (dataRoom (x .state) (roomOf x) wide);
-    }
+Allowed x v segment = (widthsOf x ≡ segmentsOf x) × Facts (segmentRoom (x .state) (roomOf x)) × (v < 2 ^ 64 → Gap x v)
+Allowed x v (first d need) = (widthsOf x + 1 ≡ segmentsOf x) × (widthsOf x < length (x .widths)) × Storable x v d need
+Allowed x v (more d wide) = (widthsOf x ≡ segmentsOf x) × (width x (lastOf x) ≡ wide) × Storable x v d wide
 
 -- a width that is enough holds its number
 need-holds : (d m w : ℕ) → d < 2 ^ 64 → needOf d m ≤ w → d < 256 ^ w
@@ -59,13 +37,24 @@ need-above : (d m w : ℕ) → d < 2 ^ 64 → 0 < w → m ≤ w → (needOf d m 
 need-above d m w s p h never = by-less d (256 ^ w) (λ l. let q = width-least d w s p l in absurd (never (omega arith))) (λ l. l)
 
 module _ (x : Index) (w : WellFormed x) (v : ℕ) where
+  -- a delta whose need is at most `wide`
+  storable : {wide : ℕ} → base x (lastOf x) ≤ v → 1 ≤ segmentsOf x → needOf (v - base x (lastOf x)) (minimumOf x) ≤ wide → wide ≤ 8
+      → Facts (dataRoom (x .state) (roomOf x) wide) → Storable x v (v - base x (lastOf x)) wide
+  storable {wide} l some need most room = record {
+    some = some;
+    sum = omega arith;
+    least = omega arith;
+    most = most;
+    holds = λ h. need-holds (v - base x (lastOf x)) (minimumOf x) wide (omega arith) need;
+    room = room;
+  }
+
   -- where a new segment is due, widths is segments, so 2 x segments <= length and there is room
-  segment-allowed : widthsOf x ≡ segmentsOf x → (v < 2 ^ 64 → (k : ℕ) → k + 1 ≡ segmentsOf x → base x k + 256 ^ width x k ≤ v)
-      → Allowed x v (segmentPlan (x .state) (roomOf x))
+  segment-allowed : widthsOf x ≡ segmentsOf x → (v < 2 ^ 64 → Gap x v) → Allowed x v (segmentPlan (x .state) (roomOf x))
   unfolding segmentPlan
   segment-allowed all gap =
       if-case (Allowed x v) (segmentRoom (x .state) (roomOf x))
-      (λ f. record { all = all; room = f; gap = gap })
+      (λ f. (all, f, gap))
       (λ never. (omega arith, λ n l r. absurd (never (let s = length-least x w in omega arith))))
 
   -- where a first delta is due, the last segment has no width
@@ -81,15 +70,7 @@ module _ (x : Index) (w : WellFormed x) (v : ℕ) where
       if-case (Allowed x v) (b ≤? v ∷ [])
       (λ f. if-case (Allowed x v) ((widthsOf x) <? length (x .widths) ∷ [])
       (λ f2. if-case (Allowed x v) (dataRoom (x .state) (roomOf x) need)
-      (λ f3. record {
-        last = last;
-        sum = omega arith;
-        least = omega arith;
-        most = omega arith;
-        holds = λ h. need-holds (v - b) (minimumOf x) need (omega arith) (omega arith);
-        entry = f2 .0;
-        room = f3;
-      })
+      (λ f3. (last, f2 .0, storable (f .0) (omega arith) (omega arith) (omega arith) f3))
       (λ never. (omega arith, λ n l r. absurd (never (omega arith)))))
       (λ never. (omega arith, λ n l r. absurd (never (omega arith)))))
       (λ never. (omega arith, λ n l r. refl))
@@ -109,14 +90,7 @@ module _ (x : Index) (w : WellFormed x) (v : ℕ) where
       (λ f. if-case (Allowed x v) (b ≤? v ∷ [])
       (λ f2. if-case (Allowed x v) (needOf (v - b) (minimumOf x) ≤? width x k ∷ [])
       (λ f3. if-case (Allowed x v) (dataRoom (x .state) (roomOf x) (width x k))
-      (λ f4. record {
-        all = all;
-        some = some;
-        sum = omega arith;
-        is = refl;
-        holds = λ h. need-holds (v - b) (minimumOf x) (width x k) (omega arith) (f3 .0);
-        room = f4;
-      })
+      (λ f4. (all, refl, storable (f2 .0) some (f3 .0) o2 f4))
       (λ never. (omega arith, λ n l r. absurd (never (omega arith)))))
       (λ never. segment-allowed all
       (λ h j e.
@@ -143,61 +117,19 @@ module _ (x : Index) (w : WellFormed x) (v : ℕ) where
 module _ (x : Index) (w : WellFormed x) (v : ℕ) (small : v < 2 ^ 64) where
   -- a new segment keeps the audit
   pub more-segment : Allowed x v segment → OneMore x (withSegment x v) v
-  more-segment a = segment-more x w v (a .all) (a .room) (a .gap small)
+  more-segment a = segment-more x w v (a .0) (a .1) (a .2 small)
 
-  -- a first delta: there are none before it
+  -- and so does a first delta
   pub more-first : (d need : ℕ) → Allowed x v (first d need) → OneMore x (withFirst x d need) v
   more-first d need a =
-      let c = w .counts in
-      let e : lastOf x ≡ widthsOf x = omega arith in
-      let b = w .bare (lastOf x) (omega arith) (omega arith) in
-      let low = b .0 in
-      let end = b .1 in
-      let none : lengthOf x - edge x (lastOf x) - 1 ≡ 0 = omega arith in
-      delta-more x w v need d _ _
-      (record {
-        some = omega arith;
-        all = a .last;
-        least = a .least;
-        most = a .most;
-        sum = a .sum;
-        small = small;
-        holds = a .holds small;
-        room = a .room;
-        long = let r = a .entry in rw length-set (omega arith);
-        widths = λ j h. getD-set-other (x .widths) (widthsOf x) j need 0 (λ q. omega arith);
-        here = rw e (getD-set-same (x .widths) (widthsOf x) need 0 (a .entry));
-        below = omega arith;
-        full = rw (none, zero-mul need) (omega arith);
-        before = λ h. absurd (omega arith);
-        fits = λ i h. absurd (omega arith);
-      })
+      let e : lastOf x ≡ widthsOf x = let l = a .0 in omega arith in
+      let long : widthsOf x + 1 ≤ length (set (x .widths) (widthsOf x) need) = let r = a .1 in rw length-set (omega arith) in
+      delta-more x w v d need _ _ small (a .2) (last-bare x w (a .0) need) (a .0) long
+      (λ j h. getD-set-other (x .widths) (widthsOf x) j need 0 (λ q. omega arith)) (rw e (getD-set-same (x .widths) (widthsOf x) need 0 (a .1)))
 
-  -- a further delta: those before it have the same width
+  -- and a further one
   pub more-delta : (d wide : ℕ) → Allowed x v (more d wide) → OneMore x (withMore x d wide) v
   more-delta d wide a =
       let c = w .counts in
-      let s = a .some in
-      let k = lastOf x in
-      let o = w .whole k (omega arith) in
-      let top : edge x (k + 1) ≡ lengthOf x = edge-last x (k + 1) (omega arith) in
-      let end : mark x (k + 1) ≡ usedOf x = mark-last x (k + 1) (omega arith) in
-      let two = o .some in
-      delta-more x w v wide d _ _
-      (record {
-        some = s;
-        all = a .all;
-        least = rw (a .is) at (o .least);
-        most = rw (a .is) at (o .most);
-        sum = a .sum;
-        small = small;
-        holds = a .holds small;
-        room = a .room;
-        long = omega arith;
-        widths = λ j h. refl;
-        here = a .is;
-        below = omega arith;
-        full = rw (top, end, a .is) at (o .ends);
-        before = λ h. a .is;
-        fits = rw (top, a .is) at (o .fits);
-      })
+      let old : Last x wide = rw (a .1) at (last-whole x w (a .0) (a .2 .some)) in
+      delta-more x w v d wide _ _ small (a .2) old (a .0) (omega arith) (λ j h. refl) (a .1)
