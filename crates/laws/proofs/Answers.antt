@@ -7,7 +7,6 @@ use native.Mathlib.Omega.{arith}
 use lib.Dec.{ltb}
 use lib.ListN.{getD}
 use Rattle.rules.specs.declared.State.{State}
-use Rattle.rules.specs.declared.Width.{Width}
 use Rattle.rules.specs.declared.Width.the-variants.{Of, Absent}
 use Rattle.rules.specs.Words.{when}
 use Rattle.rules.specs.Refusals.{widthAt}

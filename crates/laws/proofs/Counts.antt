@@ -1,12 +1,12 @@
 -- The counts rule as plain orders, and back: by cases on whether there is a segment, the rest is arithmetic.
-use Prim.Native.Nat.{ℕ, _+_, _-_, _*_, _≤_, _<_}
-use mathlib.Core.Bool.{Bool, true, false}
-use mathlib.Core.Path.{_≡_, refl, _∙_}
+use Prim.Native.Nat.{_≤_}
+use mathlib.Core.Bool.{true, false}
+use mathlib.Core.Path.{_≡_, _∙_}
 use native.Mathlib.Omega.{arith}
 use lib.Dec.{eqb}
 use borrow.Author.Tests.{eqb-true, eqb-false}
 use Rattle.rules.specs.declared.State.{State}
-use Rattle.rules.specs.Words.{Facts, when-all}
+use Rattle.rules.specs.Words.{Facts}
 use Rattle.rules.specs.Record.{Index, roomOf, stateTests, roomTests, countsHold}
 use Rattle.laws.specs.Orders.{stateOrders, ordersOf}
 use Rattle.laws.proofs.Tests.{by-test, both-facts, taken}
