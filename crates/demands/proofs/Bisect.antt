@@ -11,16 +11,16 @@ use borrow.Author.Tests.{ltb-true, ltb-false, lt-ltb, le-ltb, lt-leb, eqb-true, 
 use Rattle.rules.specs.Words.{value}
 use Rattle.rules.specs.Record.{Index, lengthOf, segmentsOf, widthsOf, usedOf, start, base, width, edge, mark}
 use Rattle.rules.specs.Push.{deltaAt}
-use Rattle.rules.specs.Reading.{deltaBelow, halving, deltaSearch, bisectIn, basesUpTo, bisectRule}
+use Rattle.rules.specs.Reading.{halving, deltaBelow, deltaSearch, bisectIn, basesUpTo, bisectRule}
 use Rattle.rules.specs.Audit.{deltas}
 use Rattle.rules.specs.Run.{howMany, NeverFalls}
 use Rattle.laws.proofs.Tests.{by-test, taken}
 use Rattle.laws.proofs.Halving.{Splits, Falls, halving-splits}
+use Rattle.laws.proofs.Bytes.{delta-below, delta-room}
 use Rattle.demands.proofs.Compare.{by-order}
-use Rattle.demands.proofs.WellFormed.{WellFormed, edge-last, edge-at, mark-at}
-use Rattle.demands.proofs.Bounds.{counted, edge-step, edge-mono, edge-most, base-above, base-mono}
-use Rattle.demands.proofs.Bytes.{delta-room, delta-below}
-use Rattle.demands.proofs.Holds.{itemOf, item-least, Bytes, Holds}
+use Rattle.demands.proofs.WellFormed.{WellFormed, edge-at, edge-last, mark-at}
+use Rattle.demands.proofs.Bounds.{counted, edge-step, edge-mono, edge-most, base-mono, base-above}
+use Rattle.demands.proofs.Holds.{itemOf, item-least, Holds, Bytes}
 use Rattle.demands.proofs.Search.{upto-within, upto-last, upto-next}
 use Rattle.demands.proofs.Get.{get-at, get-holds}
 use Rattle.demands.proofs.Run.{Keeps}

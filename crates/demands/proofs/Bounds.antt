@@ -6,7 +6,7 @@ use native.Mathlib.Omega.{arith}
 use native.Mathlib.Numerals.{add-one}
 use native.Mathlib.Nat.{pow-le-pow-right, mul-le-mul-left, suc-mul, le-div-iff-mul-le, one-le-pow}
 use lib.Dec.{lit<}
-use Rattle.rules.specs.Record.{Index, lengthOf, minimumOf, segmentsOf, usedOf, widthsOf, lastOf, countsHold, edge, mark, base, width}
+use Rattle.rules.specs.Record.{Index, minimumOf, lengthOf, segmentsOf, widthsOf, usedOf, lastOf, base, width, edge, mark, countsHold}
 use Rattle.laws.proofs.Counts.{facts-counts}
 use Rattle.demands.proofs.Compare.{by-less, rises}
 use Rattle.demands.proofs.WellFormed.{WellFormed, edge-last, mark-last}

@@ -1,20 +1,31 @@
 -- The delta run over an audited segment's bytes: its deltas are the segment's, so its i-th value is what get answers.
-use Prim.Native.Nat.{ℕ, suc, _+_, _-_, _*_, _/_, _<_}
-use mathlib.Core.Path.{_≡_, sym, ap, _∙_}
+use Prim.Native.Nat.{ℕ, zero, suc, _+_, _-_, _*_, _/_, _<_}
+use mathlib.Core.List.{List}
+use mathlib.Core.Path.{_≡_, refl, sym, ap, _∙_}
 use native.Mathlib.Omega.{arith}
-use native.Mathlib.Nat.{mul-div-cancel}
+use native.Mathlib.Nat.{add-zero, mul-div-cancel}
 use lib.ListN.{length, getD, drop, length-drop}
 use lib.Seq.{length-take-le, getD-take, getD-drop}
 use Rattle.rules.specs.Words.{value}
-use Rattle.rules.specs.Record.{Index, start, base, width, edge, mark, widthsOf}
+use Rattle.rules.specs.Record.{Index, widthsOf, start, base, width, edge, mark}
 use Rattle.rules.specs.Push.{deltaAt}
 use Rattle.rules.specs.Reading.{getRule, runCountRule, runValueRule}
 use Rattle.rules.specs.Audit.{deltas}
 use Rattle.laws.proofs.Tests.{taken}
+use Rattle.laws.proofs.Bytes.{delta-room}
 use Rattle.demands.specs.Terms.{bytesOf}
 use Rattle.demands.proofs.WellFormed.{WellFormed, edge-at}
-use Rattle.demands.proofs.Bytes.{delta-room, delta-same}
 use Rattle.demands.proofs.Get.{get-at}
+
+-- where b has from `to` on what a has from `at` on, the deltas there are the same
+delta-moved : (a b : List ℕ) (at to w : ℕ) → ((i : ℕ) → i < w → getD a (at + i) 0 ≡ getD b (to + i) 0) → deltaAt a at w ≡ deltaAt b to w
+unfolding deltaAt
+delta-moved a b at to zero s = refl
+delta-moved a b at to (suc w) s =
+    let head : getD a at 0 ≡ getD b to 0 = rw (add-zero at, add-zero to) at (s 0 (omega arith)) in
+    let rest = delta-moved a b (suc at) (suc to) w
+    (λ i h. let e : suc at + i ≡ at + suc i = omega arith in let f : suc to + i ≡ to + suc i = omega arith in rw (e, f) (s (suc i) (omega arith))) in
+    rw (head, rest)
 
 module _ (x : Index) (w : WellFormed x) (k : ℕ) (h : k < widthsOf x) where
   -- a segment's bytes are its deltas times its width
@@ -35,7 +46,7 @@ module _ (x : Index) (w : WellFormed x) (k : ℕ) (h : k < widthsOf x) where
   delta-part i l =
       let r = delta-room (deltas x k) (width x k) i l in
       let ends = w .whole k h .ends in
-      delta-same (bytesOf x k) (x .bytes) (i * width x k) (mark x k + i * width x k) (width x k)
+      delta-moved (bytesOf x k) (x .bytes) (i * width x k) (mark x k + i * width x k) (width x k)
       (λ j g.
       let e : mark x k + (i * width x k + j) ≡ mark x k + i * width x k + j = omega arith in
       getD-take (mark x (k + 1) - mark x k) (drop (mark x k) (x .bytes)) (i * width x k + j) 0 (omega arith)

@@ -6,14 +6,14 @@ use native.Mathlib.Omega.{arith}
 use lib.Dec.{ltb, eqb}
 use borrow.Author.Tests.{lt-ltb, le-ltb, eq-eqb, ne-eqb}
 use Rattle.rules.specs.Words.{value}
-use Rattle.rules.specs.Record.{Index, lengthOf, segmentsOf, widthsOf, start, edge, width}
+use Rattle.rules.specs.Record.{Index, lengthOf, segmentsOf, widthsOf, start, width, edge}
 use Rattle.rules.specs.Reading.{deltaRead, readIn, startsUpTo, getRule}
 use Rattle.rules.specs.Audit.{deltas}
 use Rattle.laws.proofs.Tests.{taken}
+use Rattle.laws.proofs.Bytes.{delta-room}
 use Rattle.demands.proofs.Compare.{by-less, by-order}
-use Rattle.demands.proofs.WellFormed.{WellFormed, edge-last, edge-at, mark-at}
+use Rattle.demands.proofs.WellFormed.{WellFormed, edge-at, edge-last, mark-at}
 use Rattle.demands.proofs.Bounds.{counted, edge-mono, edge-most}
-use Rattle.demands.proofs.Bytes.{delta-room}
 use Rattle.demands.proofs.Holds.{itemOf, Holds}
 use Rattle.demands.proofs.Search.{upto-within, upto-last, upto-next}
 

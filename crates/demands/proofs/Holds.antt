@@ -4,10 +4,10 @@ use mathlib.Core.List.{List}
 use mathlib.Core.Path.{_≡_}
 use native.Mathlib.Omega.{arith}
 use lib.ListN.{getD}
-use Rattle.rules.specs.Record.{Index, lengthOf, segmentsOf, usedOf, edge, mark, base, width}
+use Rattle.rules.specs.Record.{Index, lengthOf, segmentsOf, usedOf, base, width, edge, mark}
 use Rattle.rules.specs.Push.{deltaAt}
+use Rattle.laws.proofs.Bytes.{delta-same, delta-room}
 use Rattle.demands.proofs.WellFormed.{Whole, WellFormed}
-use Rattle.demands.proofs.Bytes.{delta-room, delta-kept}
 
 -- value number i of a segment: its base, then its base + delta
 abbrev pub item : List ℕ → ℕ → ℕ → ℕ → ℕ → ℕ
@@ -60,5 +60,5 @@ whole-kept {u = u} {b = b} {w = w} {f = f} {t = t} {a = a} {e = e} {bs = bs} {bs
           let r = delta-room (t - f - 1) w i k in
           let g = h .inside in
           let q = h .ends in
-          rw (delta-kept bs' bs u (a + i * w) w s (omega arith)) (h .fits i k);
+          rw (delta-same bs' bs u (a + i * w) w s (omega arith)) (h .fits i k);
     })

@@ -7,13 +7,13 @@ use native.Mathlib.Nat.{zero-mul}
 use lib.ListN.{length, getD}
 use lib.Seq.{sets, length-sets}
 use Rattle.rules.specs.Words.{Facts}
-use Rattle.rules.specs.Record.{Index, widthsOf, index, lengthOf, minimumOf, segmentsOf, usedOf, lastOf, roomOf, edge, mark, base, width}
+use Rattle.rules.specs.Record.{Index, index, minimumOf, lengthOf, segmentsOf, widthsOf, usedOf, lastOf, base, width, edge, mark, roomOf}
 use Rattle.rules.specs.Push.{deltaBytes, deltaAt, dataRoom, grown}
 use Rattle.rules.specs.Audit.{deltas}
 use Rattle.laws.specs.Orders.{ordersOf}
+use Rattle.laws.proofs.Bytes.{delta-same, sets-before, delta-stored, bytes-stored, delta-room}
 use Rattle.demands.proofs.Compare.{by-less}
-use Rattle.demands.proofs.WellFormed.{WholeAt, WellFormed, edge-last, mark-last, edge-at, mark-at}
-use Rattle.demands.proofs.Bytes.{delta-room, delta-kept, sets-before, delta-stored, bytes-stored}
+use Rattle.demands.proofs.WellFormed.{WholeAt, WellFormed, edge-at, edge-last, mark-at, mark-last}
 use Rattle.demands.proofs.Holds.{item, itemOf, Holds, OneMore, whole-kept}
 
 -- the bytes of d + 1 deltas
@@ -112,7 +112,7 @@ module _ (x : Index) (w : WellFormed x) (v d wide n : ℕ) (ws : List ℕ) (smal
   delta-there i h =
       let r = delta-room (had x) wide i h in
       let f = o .full in
-      delta-kept ds (x .bytes) (usedOf x) (mark x k + i * wide) wide bytes-kept (omega arith)
+      delta-same ds (x .bytes) (usedOf x) (mark x k + i * wide) wide bytes-kept (omega arith)
 
   -- every base + delta fits: those before, and v
   fits-new : (i : ℕ) → i < lengthOf x + 1 - edge x k - 1 → base x k + deltaAt ds (mark x k + i * wide) wide < 2 ^ 64
@@ -168,7 +168,7 @@ module _ (x : Index) (w : WellFormed x) (v d wide n : ℕ) (ws : List ℕ) (smal
       let ends = g .ends in
       let inside = g .inside in
       let r = delta-room (deltas x j) (width x j) i (omega arith) in
-      rw (same j b, delta-kept ds (x .bytes) (usedOf x) (mark x j + i * width x j) (width x j) bytes-kept (omega arith)))
+      rw (same j b, delta-same ds (x .bytes) (usedOf x) (mark x j + i * width x j) (width x j) bytes-kept (omega arith)))
       (λ b.
       let e : j ≡ k = omega arith in
       let top : edge x (k + 1) ≡ lengthOf x = edge-last x (k + 1) (omega arith) in

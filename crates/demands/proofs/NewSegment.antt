@@ -8,7 +8,7 @@ use lib.ListN.{length, getD, set, length-set}
 use lib.Seq.{getD-set-same, getD-set-other}
 use borrow.Author.Tests.{lt-ltb, le-ltb}
 use Rattle.rules.specs.Words.{when, Facts}
-use Rattle.rules.specs.Record.{Index, lengthOf, segmentsOf, usedOf, widthsOf, roomOf, edge, mark, base, width}
+use Rattle.rules.specs.Record.{Index, lengthOf, segmentsOf, widthsOf, usedOf, base, width, edge, mark, roomOf}
 use Rattle.rules.specs.Push.{segmentRoom, withSegment}
 use Rattle.laws.specs.Orders.{ordersOf}
 use Rattle.demands.proofs.Compare.{by-less}

@@ -9,7 +9,7 @@ use lib.ListN.{length, set, length-set}
 use lib.Seq.{getD-set-same, getD-set-other}
 use borrow.Author.Tests.{ltb-true, ltb-false, eqb-true, eqb-false}
 use Rattle.rules.specs.Words.{_≤?_, _<?_, Facts}
-use Rattle.rules.specs.Record.{Index, lengthOf, minimumOf, segmentsOf, widthsOf, lastOf, roomOf, widthTests, base, width}
+use Rattle.rules.specs.Record.{Index, minimumOf, lengthOf, segmentsOf, widthsOf, lastOf, base, width, roomOf, widthTests}
 use Rattle.rules.specs.Push.{needOf, Plan, refuse, segment, first, more, segmentRoom, dataRoom, segmentPlan, firstPlan, nextPlan, planOf, withSegment, withFirst, withMore}
 use Rattle.laws.proofs.Tests.{pick-case, if-case}
 use Rattle.laws.proofs.Widths.{width-holds, width-least, width-most}

@@ -13,7 +13,7 @@ use Rattle.rules.specs.Run.{howMany, NeverFalls}
 use Rattle.demands.proofs.WellFormed.{WellFormed}
 use Rattle.demands.proofs.Bounds.{counted}
 use Rattle.demands.proofs.Run.{Keeps}
-use Rattle.demands.proofs.Get.{get-value, get-holds}
+use Rattle.demands.proofs.Get.{get-holds, get-value}
 use Rattle.demands.proofs.Bisect.{bisect-counts}
 
 module _ (x : Index) (w : WellFormed x) where

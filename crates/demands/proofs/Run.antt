@@ -12,7 +12,7 @@ use Rattle.rules.specs.Run.{fresh, run, ifTaken, accepted}
 use Rattle.demands.specs.Terms.{Small}
 use Rattle.demands.proofs.Compare.{by-less}
 use Rattle.demands.proofs.WellFormed.{WellFormed}
-use Rattle.demands.proofs.Holds.{Bytes, Holds, OneMore}
+use Rattle.demands.proofs.Holds.{Holds, Bytes, OneMore}
 use Rattle.demands.proofs.Push.{Allowed, plan-allowed, more-segment, more-first, more-delta}
 
 -- the index is well formed and holds these values, in order
