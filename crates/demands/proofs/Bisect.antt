@@ -1,4 +1,4 @@
--- On a well-formed index bisect_left is never damage; where no segment falls, it cuts the values at v, since a segment's values are below the next base.
+-- On a well-formed index bisect_left is a value; where no segment falls it cuts the values at v, since a segment's values are below the next base.
 use Prim.Native.Nat.{ℕ, zero, suc, _+_, _-_, _*_, _/_, _^_, _≤_, _<_}
 use mathlib.Core.Bool.{Bool, false}
 use mathlib.Core.List.{List, [], _∷_}
@@ -227,7 +227,8 @@ module _ (x : Index) (w : WellFormed x) where
   bisect-value v = let r = bisect-cuts v in (r .0, r .1)
 
 -- how many of a list that a number cuts
-cut-counts : (vs : List ℕ) (v a : ℕ) → a ≤ length vs → ((p : ℕ) → p < a → getD vs p 0 < v) → ((p : ℕ) → a ≤ p → p < length vs → v ≤ getD vs p 0) → howMany v vs ≡ a
+cut-counts : (vs : List ℕ) (v a : ℕ) → a ≤ length vs → ((p : ℕ) → p < a → getD vs p 0 < v) → ((p : ℕ) → a ≤ p → p < length vs → v ≤ getD vs p 0)
+    → howMany v vs ≡ a
 unfolding howMany
 cut-counts [] v a h b g = omega arith
 cut-counts (u ∷ us) v zero h b g =

@@ -12,7 +12,8 @@ use Rattle.demands.proofs.Compare.{by-less, rises}
 use Rattle.demands.proofs.WellFormed.{WellFormed, edge-last, mark-last}
 
 -- one segment more: at most 8 bytes for each of its d deltas
-mark-turn : (d w from to at end k : ℕ) → d ≡ to - from - 1 → from + 2 ≤ to → w ≤ 8 → at + d * w ≡ end → at + 8 * k ≤ 8 * from → end + 8 * suc k ≤ 8 * to
+mark-turn : (d w from to at end k : ℕ) → d ≡ to - from - 1 → from + 2 ≤ to → w ≤ 8 → at + d * w ≡ end → at + 8 * k ≤ 8 * from
+    → end + 8 * suc k ≤ 8 * to
 mark-turn d w from to at end k e s h q r = let l = mul-le-mul-left d h in omega arith
 
 module _ (x : Index) (w : WellFormed x) where

@@ -116,7 +116,8 @@ module _ (m : ℕ) (starts bases offsets widths bytes : List ℕ) (m-least : 1 �
   bisect-accepted = bisect-counts made taken kept
 
   -- and bisect_range_left(a..b, v) is that number raised to at least a and lowered to at most b
-  pub bisect-range-accepted : NeverFalls taken → (a b v : ℕ) → a ≤ b → b ≤ n → bisectRangeRule made a b v ≡ value (min b (max a (howMany v taken)))
+  pub bisect-range-accepted : NeverFalls taken → (a b v : ℕ) → a ≤ b → b ≤ n
+      → bisectRangeRule made a b v ≡ value (min b (max a (howMany v taken)))
   bisect-range-accepted = bisect-range-counts made taken kept
 
 -- Tables that pass the audit, however they came to be: no read answers 10, and no push does
@@ -153,8 +154,9 @@ module _ (x : Index) (audited : auditRule x ≡ wellFormed) where
   pub delta-run-count : (k : ℕ) → k < widthsOf x → runCountRule (bytesOf x k) (width x k) ≡ value (deltas x k)
   delta-run-count = run-count x (audit-well x audited)
 
-  -- and its i-th value is get of the position i after the start's next
-  pub delta-run-value : (k : ℕ) → k < widthsOf x → (i : ℕ) → i < deltas x k → runValueRule (bytesOf x k) (base x k) (width x k) i ≡ getRule x (start x k + 1 + i)
+  -- and its i-th value is what get answers at the start + 1 + i
+  pub delta-run-value : (k : ℕ) → k < widthsOf x → (i : ℕ) → i < deltas x k
+      → runValueRule (bytesOf x k) (base x k) (width x k) i ≡ getRule x (start x k + 1 + i)
   delta-run-value = run-value x (audit-well x audited)
 
 -- Any index and tables, sorted or not

@@ -3,6 +3,7 @@ use Prim.Native.Nat.{ℕ, zero, suc, _+_, _-_, _≤_, min, max}
 use mathlib.Core.List.{List, [], _∷_, _++_}
 use mathlib.Core.Path.{_≡_, refl}
 use native.Mathlib.Omega.{arith}
+use native.Mathlib.Nat.{zero-add}
 use lib.ListN.{length, getD, take, drop, length-drop}
 use lib.Seq.{sets, sets-eq, drop-cons, length-take-le}
 use borrow.Author.Tests.{le-leb}
@@ -47,7 +48,7 @@ module _ (x : Index) (vs : List ℕ) (k : Keeps x vs) where
       let m = k .many in
       let ps = take (b - a) (drop a vs) in
       let len : length ps ≡ b - a = length-take-le (b - a) (drop a vs) (let e = length-drop a vs in omega arith) in
-      let put : sets out 0 ps ≡ ps ++ drop (b - a) out = let z : 0 + (b - a) ≡ b - a = omega arith in rw (len, z) at (sets-eq ps out 0 (omega arith)) in
+      let put : sets out 0 ps ≡ ps ++ drop (b - a) out = rw (len, zero-add (b - a)) at (sets-eq ps out 0 (omega arith)) in
       rw (in-range x (k .well) a b _ h (omega arith), le-leb (b - a) (length out) o, reads-kept (b - a) a (omega arith), len, put)
 
   -- opening a cursor over a..b

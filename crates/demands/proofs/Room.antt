@@ -19,7 +19,8 @@ use Rattle.demands.proofs.Run.{run-same}
 -- a push leaves the lengths of the tables
 room-same : (x : Index) (v : ℕ) (p : Plan) → roomOf (effect x v p .left) ≡ roomOf x
 room-same x v (refuse e) = refl
-room-same x v segment = rw (length-set (x .starts) (segmentsOf x) (lengthOf x), length-set (x .bases) (segmentsOf x) v, length-set (x .offsets) (segmentsOf x) (usedOf x))
+room-same x v segment =
+    rw (length-set (x .starts) (segmentsOf x) (lengthOf x), length-set (x .bases) (segmentsOf x) v, length-set (x .offsets) (segmentsOf x) (usedOf x))
 room-same x v (first d w) = rw (length-set (x .widths) (widthsOf x) w, length-sets (x .bytes) (usedOf x) (deltaBytes w d))
 room-same x v (more d w) = rw (length-sets (x .bytes) (usedOf x) (deltaBytes w d))
 

@@ -79,7 +79,8 @@ run-keeps (v ∷ us) x vs s k =
     (run-keeps us (pushRule x v .left) (vs ++ ifTaken (pushRule x v .answer) v []) (s .1) (push-keeps x vs k v (s .0)))
 
 -- what no plan changes, no run changes
-pub run-same : {A : Type 0} (f : Index → A) → ((x : Index) (v : ℕ) (p : Plan) → f (effect x v p .left) ≡ f x) → (us : List ℕ) (x : Index) → f (run x us) ≡ f x
+pub run-same : {A : Type 0} (f : Index → A) → ((x : Index) (v : ℕ) (p : Plan) → f (effect x v p .left) ≡ f x)
+    → (us : List ℕ) (x : Index) → f (run x us) ≡ f x
 unfolding run pushRule
 run-same f same [] x = refl
 run-same f same (v ∷ us) x = run-same f same us (pushRule x v .left) ∙ same x v (planOf x v)
