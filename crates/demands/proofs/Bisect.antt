@@ -22,7 +22,7 @@ use Rattle.demands.proofs.WellFormed.{WellFormed, edge-at, edge-last, m
 use Rattle.demands.proofs.Bounds.{counted, edge-step, edge-mono, edge-most, base-mono, base-above}
 use Rattle.demands.proofs.Holds.{itemOf, item-least, Holds, Bytes}
 use Rattle.demands.proofs.Search.{upto-within, upto-last, upto-next}
-use Rattle.demands.proofs.Get.{get-at, get-holds}
+use Rattle.demands.proofs.Get.{get-at, get-kept}
 use Rattle.demands.proofs.Run.{Keeps}
 
 -- the values of segment s never fall
@@ -244,9 +244,9 @@ module _ (x : Index) (vs : List ℕ) (k : Keeps x vs) where
   item-is s i h l =
       let w = k .well in
       let top = edge-most x w (s + 1) (omega arith) in
-      let p = edge x s + i in
+      let m = k .many in
       let e1 = get-at x w s i h l in
-      let e2 = get-holds x w p (getD vs p 0) (k .holds p (omega arith)) in
+      let e2 = get-kept x vs k (edge x s + i) (omega arith) in
       cc
 
   -- where the values never fall, no segment does

@@ -8,7 +8,7 @@ use Rattle.rules.specs.declared.Cursor.{Cursor}
 use Rattle.rules.specs.Words.{value, refused}
 use Rattle.rules.specs.Record.{Index, minimumOf, segmentsOf, widthsOf, usedOf, lastOf, start, base, width, roomOf}
 use Rattle.rules.specs.Push.{Plan, refuse, segment, first, more, effect, pushRule, lengthRule, sizeRule}
-use Rattle.rules.specs.Reading.{startsUpTo, getRule, reads, ranged, rangeRule, cursor, iterRule, stays, stepRule, runCountRule, runValueRule, targetRule, basesUpTo, bisectRule, bisectRangeRule}
+use Rattle.rules.specs.Reading.{startsUpTo, getRule, reads, ranged, rangeRule, cursor, iterRule, stays, stepRule, runCountRule, runValueRule, span, targetRule, basesUpTo, bisectRule, bisectRangeRule}
 use Rattle.rules.specs.Audit.{wellFormed, deltas, auditRule}
 use Rattle.rules.specs.Run.{fresh, run, accepted, howMany, NeverFalls}
 use Rattle.demands.specs.Terms.{Small, RoomFor, Walks, bytesOf}
@@ -16,9 +16,9 @@ use Rattle.demands.proofs.WellFormed.{audit-well, well-audit}
 use Rattle.demands.proofs.Bounds.{counted, segments-half, last-above, segments-spread}
 use Rattle.demands.proofs.Run.{Keeps, fresh-keeps, run-keeps, run-same}
 use Rattle.demands.proofs.Search.{upto-last}
-use Rattle.demands.proofs.Get.{get-holds}
+use Rattle.demands.proofs.Get.{get-kept}
 use Rattle.demands.proofs.Bisect.{bisect-counts}
-use Rattle.demands.proofs.Ranges.{reads-kept, range-kept, iter-kept, bisect-range-counts}
+use Rattle.demands.proofs.Ranges.{reads-kept, range-kept, iter-kept, target-kept, target-last, bisect-range-counts}
 use Rattle.demands.proofs.Walks.{walk-reads, reads-walk}
 use Rattle.demands.proofs.DeltaRun.{run-count, run-value}
 use Rattle.demands.proofs.Room.{refused-most, refused-below}
@@ -96,7 +96,7 @@ module _ (m : ℕ) (starts bases offsets widths bytes : List ℕ) (m-least : 1 �
 
   -- get(i) is the i-th accepted value
   pub get-accepted : (i : ℕ) → i < n → getRule made i ≡ value (getD taken i 0)
-  get-accepted i h = let l = kept .many in get-holds made (kept .well) i (getD taken i 0) (kept .holds i (omega arith))
+  get-accepted = get-kept made taken kept
 
   -- get_range(a..b) writes the accepted values a to b - 1, in order, from the output's first entry; the rest of the output stays
   pub range-accepted : (a b : ℕ) (out : List ℕ) → a ≤ b → b ≤ n → b - a ≤ length out
@@ -110,6 +110,14 @@ module _ (m : ℕ) (starts bases offsets widths bytes : List ℕ) (m-least : 1 �
   -- and the walk gives the accepted values a to b - 1, in order, then done
   pub walk-accepted : (a b : ℕ) → a ≤ b → b ≤ n → Walks made (cursor a b) (take (b - a) (drop a taken))
   walk-accepted a b h l = reads-walk made (b - a) a b _ refl (reads-kept made taken kept (b - a) a (omega arith))
+
+  -- target_range(i, t) is from the i-th accepted value to the next one, or to t if that is smaller
+  pub target-accepted : (i t : ℕ) → i + 1 < n → targetRule made i t ≡ value (span (getD taken i 0) (min (getD taken (i + 1) 0) t))
+  target-accepted = target-kept made taken kept
+
+  -- and at the last one it is to t
+  pub target-accepted-last : (i t : ℕ) → i + 1 ≡ n → targetRule made i t ≡ value (span (getD taken i 0) t)
+  target-accepted-last = target-last made taken kept
 
   -- If the accepted values never fall, bisect_left(v) is how many of them are below v
   pub bisect-accepted : NeverFalls taken → (v : ℕ) → bisectRule made v ≡ value (howMany v taken)

@@ -1,9 +1,11 @@
 -- On a well-formed index get answers what the index holds: the halving over starts finds the one segment that has the position.
 use Prim.Native.Nat.{ℕ, zero, suc, _+_, _-_, _≤_, _<_}
 use mathlib.Core.Bool.{false}
+use mathlib.Core.List.{List}
 use mathlib.Core.Path.{_≡_, refl, sym, ap, _∙_}
 use native.Mathlib.Omega.{arith}
 use lib.Dec.{ltb, eqb}
+use lib.ListN.{length, getD}
 use borrow.Author.Tests.{lt-ltb, le-ltb, eq-eqb, ne-eqb}
 use Rattle.rules.specs.Words.{value}
 use Rattle.rules.specs.Record.{Index, lengthOf, segmentsOf, widthsOf, start, width, edge}
@@ -15,6 +17,7 @@ use Rattle.demands.proofs.Compare.{by-less, by-order}
 use Rattle.demands.proofs.WellFormed.{WellFormed, edge-at, edge-last, mark-at}
 use Rattle.demands.proofs.Bounds.{counted, edge-mono, edge-most}
 use Rattle.demands.proofs.Holds.{itemOf, Holds}
+use Rattle.demands.proofs.Run.{Keeps}
 use Rattle.demands.proofs.Search.{upto-within, upto-last, upto-next}
 
 -- position p lies in segment s
@@ -96,7 +99,7 @@ module _ (x : Index) (w : WellFormed x) where
       rw (counted x w, lt-ltb p (lengthOf x) g, ne-eqb (startsUpTo x p) 0 (λ z. omega arith), e) (read-in s i h l)
 
   -- get answers what the index holds
-  pub get-holds : (p v : ℕ) → Holds x p v → getRule x p ≡ value v
+  get-holds : (p v : ℕ) → Holds x p v → getRule x p ≡ value v
   get-holds p v h =
       let e = h .here in
       let b = h .before in
@@ -110,3 +113,7 @@ module _ (x : Index) (w : WellFormed x) where
       let low = f .from in
       let v = itemOf x s (p - edge x s) in
       (v, get-holds p v (record { seg = s; nth = p - edge x s; inside = f .inside; here = omega arith; before = f .before; is = refl }))
+
+-- get answers the values kept, in order
+pub get-kept : (x : Index) (vs : List ℕ) → Keeps x vs → (i : ℕ) → i < length vs → getRule x i ≡ value (getD vs i 0)
+get-kept x vs k i h = let m = k .many in get-holds x (k .well) i (getD vs i 0) (k .holds i (omega arith))
