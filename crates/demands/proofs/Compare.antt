@@ -15,6 +15,7 @@ by-less a b below above = by-test (ltb a b) (λ t. below (ltb-true a b t)) (λ t
 pub by-order {ℓ} : {P : Type ℓ} (a b : ℕ) → (a < b → P) → (a ≡ b → P) → (b < a → P) → P
 by-order a b below same above = by-less a b below (λ l. by-less b a above (λ g. same (omega arith)))
 
+-- j further on, never below
 rises-by : (f : ℕ → ℕ) (n : ℕ) → ((k : ℕ) → k < n → f k ≤ f (k + 1)) → (i j : ℕ) → j + i ≤ n → f i ≤ f (j + i)
 rises-by f n step i zero h = let e : 0 + i ≡ i = omega arith in rw e (omega arith)
 rises-by f n step i (suc j) h =

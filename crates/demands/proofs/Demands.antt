@@ -1,4 +1,4 @@
--- What trainees rely on, as theorems over the rules. Nothing is assumed of the lent tables, nor that values rise where it is not said.
+-- What trainees rely on, as theorems over the rules. Nothing is assumed of the lent tables, and values may fall unless a theorem says otherwise.
 use Prim.Native.Nat.{ℕ, _+_, _-_, _*_, _/_, _^_, _≤_, _<_, min, max}
 use mathlib.Core.List.{List, _++_}
 use mathlib.Core.Path.{_≡_, refl}
@@ -7,14 +7,14 @@ use lib.ListN.{length, getD, take, drop}
 use Rattle.rules.specs.declared.Cursor.{Cursor}
 use Rattle.rules.specs.Words.{value, refused}
 use Rattle.rules.specs.Record.{Index, minimumOf, segmentsOf, widthsOf, usedOf, lastOf, start, base, width, roomOf}
-use Rattle.rules.specs.Push.{Plan, refuse, segment, first, more, effect, pushRule, lengthRule, sizeRule}
+use Rattle.rules.specs.Push.{pushRule, lengthRule, sizeRule}
 use Rattle.rules.specs.Reading.{startsUpTo, getRule, reads, ranged, rangeRule, cursor, iterRule, stays, stepRule, runCountRule, runValueRule, span, targetRule, basesUpTo, bisectRule, bisectRangeRule}
 use Rattle.rules.specs.Audit.{wellFormed, deltas, auditRule}
 use Rattle.rules.specs.Run.{fresh, run, accepted, howMany, NeverFalls}
 use Rattle.demands.specs.Terms.{Small, RoomFor, Walks, bytesOf}
 use Rattle.demands.proofs.WellFormed.{audit-well, well-audit}
 use Rattle.demands.proofs.Bounds.{counted, segments-half, last-above, segments-spread}
-use Rattle.demands.proofs.Run.{Keeps, fresh-keeps, run-keeps, run-same}
+use Rattle.demands.proofs.Run.{Keeps, fresh-keeps, run-keeps, minimum-kept}
 use Rattle.demands.proofs.Search.{upto-last}
 use Rattle.demands.proofs.Get.{get-kept}
 use Rattle.demands.proofs.Bisect.{bisect-counts}
@@ -23,13 +23,6 @@ use Rattle.demands.proofs.Walks.{walk-reads, reads-walk}
 use Rattle.demands.proofs.DeltaRun.{run-count, run-value}
 use Rattle.demands.proofs.Room.{refused-most, refused-below}
 use Rattle.demands.proofs.Undamaged.{not-ten, get-sound, range-sound, step-sound, target-sound, bisect-sound, bisect-range-sound}
-
--- no push changes the minimum width
-minimum-same : (x : Index) (v : ℕ) (p : Plan) → minimumOf (effect x v p .left) ≡ minimumOf x
-minimum-same x v (refuse e) = refl
-minimum-same x v segment = refl
-minimum-same x v (first d w) = refl
-minimum-same x v (more d w) = refl
 
 -- A run: a fresh index with m 1 to 8 over any lent tables, and any u64 values pushed one after another, refused ones included
 module _ (m : ℕ) (starts bases offsets widths bytes : List ℕ) (m-least : 1 ≤ m) (m-most : m ≤ 8) (us : List ℕ) (small : Small us) where
@@ -59,7 +52,7 @@ module _ (m : ℕ) (starts bases offsets widths bytes : List ℕ) (m-least : 1 �
 
   -- the minimum width is still m
   pub run-minimum : minimumOf made ≡ m
-  run-minimum = run-same minimumOf minimum-same us new
+  run-minimum = minimum-kept us new
 
   -- segments <= (n + 1) / 2
   pub run-half : segmentsOf made ≤ (n + 1) / 2

@@ -6,7 +6,7 @@ use native.Mathlib.Omega.{arith}
 use lib.ListN.{length, getD, length-append, List·getD-append}
 use lib.Seq.{getD-at}
 use Rattle.rules.specs.Words.{Answer, value, refused}
-use Rattle.rules.specs.Record.{Index, lengthOf}
+use Rattle.rules.specs.Record.{Index, minimumOf, lengthOf}
 use Rattle.rules.specs.Push.{Plan, refuse, segment, first, more, planOf, effect, pushRule}
 use Rattle.rules.specs.Run.{fresh, run, ifTaken, accepted}
 use Rattle.demands.specs.Terms.{Small}
@@ -84,3 +84,14 @@ pub run-same : {A : Type 0} (f : Index → A) → ((x : Index) (v : ℕ) (p : Pl
 unfolding run pushRule
 run-same f same [] x = refl
 run-same f same (v ∷ us) x = run-same f same us (pushRule x v .left) ∙ same x v (planOf x v)
+
+-- no plan changes the minimum width
+minimum-same : (x : Index) (v : ℕ) (p : Plan) → minimumOf (effect x v p .left) ≡ minimumOf x
+minimum-same x v (refuse e) = refl
+minimum-same x v segment = refl
+minimum-same x v (first d w) = refl
+minimum-same x v (more d w) = refl
+
+-- so no run does
+pub minimum-kept : (us : List ℕ) (x : Index) → minimumOf (run x us) ≡ minimumOf x
+minimum-kept = run-same minimumOf minimum-same
