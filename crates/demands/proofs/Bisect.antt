@@ -19,7 +19,7 @@ use Rattle.laws.proofs.Halving.{Splits, Falls, halving-splits}
 use Rattle.laws.proofs.Bytes.{delta-below, delta-room}
 use Rattle.demands.proofs.Compare.{by-order}
 use Rattle.demands.proofs.WellFormed.{WellFormed, edge-at, edge-last, mark-at}
-use Rattle.demands.proofs.Bounds.{counted, edge-step, edge-mono, edge-most, base-mono, base-above}
+use Rattle.demands.proofs.Bounds.{counts-hold, edge-step, edge-mono, edge-most, base-mono, base-above}
 use Rattle.demands.proofs.Holds.{itemOf, item-least, Holds, Bytes}
 use Rattle.demands.proofs.Search.{upto-within, upto-last, upto-next}
 use Rattle.demands.proofs.Get.{get-at, get-kept}
@@ -202,13 +202,13 @@ module _ (x : Index) (w : WellFormed x) where
       let top = upto-within (x .bases) (segmentsOf x) v in
       let next = upto-next (x .bases) (segmentsOf x) v in
       by-test (eqb (lengthOf x) 0)
-      (λ t. let z = eqb-true (lengthOf x) 0 t in (0, rw (counted x w, t), λ sorted bytes. cut-none v (λ g. absurd (omega arith))))
+      (λ t. let z = eqb-true (lengthOf x) 0 t in (0, rw (counts-hold x w, t), λ sorted bytes. cut-none v (λ g. absurd (omega arith))))
       (λ t.
       let z = eqb-false (lengthOf x) 0 t in
       by-test (eqb k 0)
       (λ u.
       let k0 = eqb-true k 0 u in
-      (0, rw (counted x w, t, u), λ sorted bytes. cut-none v (λ g. let n = next (omega arith) in let b = ap (base x) k0 in omega arith)))
+      (0, rw (counts-hold x w, t, u), λ sorted bytes. cut-none v (λ g. let n = next (omega arith) in let b = ap (base x) k0 in omega arith)))
       (λ u.
       let k1 = eqb-false k 0 u in
       let s = k - 1 in
@@ -216,7 +216,7 @@ module _ (x : Index) (w : WellFormed x) where
       let l = upto-last (x .bases) (segmentsOf x) v (omega arith) in
       let r = bisect-in s v in-s l in (
         r .0,
-        rw (counted x w, t, u) (r .1),
+        rw (counts-hold x w, t, u) (r .1),
         λ sorted bytes. cut-place bytes s v (r .0) in-s l
             (λ g. let back : s + 1 ≡ k = omega arith in let n = next (omega arith) in let b = ap (base x) back in omega arith)
             (r .2 (sorted s in-s)),

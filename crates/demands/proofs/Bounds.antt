@@ -18,8 +18,8 @@ mark-turn d w from to at end k e s h q r = let l = mul-le-mul-left d h in omega 
 
 module _ (x : Index) (w : WellFormed x) where
   -- the counts rule holds
-  pub counted : countsHold x ≡ true
-  counted = facts-counts x (w .counts)
+  pub counts-hold : countsHold x ≡ true
+  counts-hold = facts-counts x (w .counts)
 
   -- each segment has a position
   pub edge-step : (k : ℕ) → k < segmentsOf x → edge x k < edge x (k + 1)

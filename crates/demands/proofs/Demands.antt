@@ -13,16 +13,16 @@ use Rattle.rules.specs.Audit.{wellFormed, deltas, auditRule}
 use Rattle.rules.specs.Run.{fresh, run, accepted, howMany, NeverFalls}
 use Rattle.demands.specs.Terms.{Small, RoomFor, Walks, bytesOf}
 use Rattle.demands.proofs.WellFormed.{audit-well, well-audit}
-use Rattle.demands.proofs.Bounds.{counted, segments-half, last-above, segments-spread}
+use Rattle.demands.proofs.Bounds.{counts-hold, segments-half, last-above, segments-spread}
 use Rattle.demands.proofs.Run.{Keeps, fresh-keeps, run-keeps, minimum-kept}
 use Rattle.demands.proofs.Search.{upto-last}
 use Rattle.demands.proofs.Get.{get-kept}
 use Rattle.demands.proofs.Bisect.{bisect-counts}
 use Rattle.demands.proofs.Ranges.{reads-kept, range-kept, iter-kept, target-kept, target-last, bisect-range-counts}
-use Rattle.demands.proofs.Walks.{walk-reads, reads-walk}
+use Rattle.demands.proofs.Walks.{walk-reads, reads-walk, walk-range}
 use Rattle.demands.proofs.DeltaRun.{run-count, run-value}
 use Rattle.demands.proofs.Room.{refused-most, refused-below}
-use Rattle.demands.proofs.Undamaged.{not-ten, get-sound, range-sound, step-sound, target-sound, bisect-sound, bisect-range-sound}
+use Rattle.demands.proofs.Undamaged.{not-ten, get-undamaged, range-undamaged, step-undamaged, target-undamaged, bisect-undamaged, bisect-range-undamaged}
 
 -- A run: a fresh index with m 1 to 8 over any lent tables, and any u64 values pushed one after another, refused ones included
 module _ (m : ℕ) (starts bases offsets widths bytes : List ℕ) (m-least : 1 ≤ m) (m-most : m ≤ 8) (us : List ℕ) (small : Small us) where
@@ -80,12 +80,12 @@ module _ (m : ℕ) (starts bases offsets widths bytes : List ℕ) (m-least : 1 �
   -- Round trip: length is n
   pub length-accepted : lengthRule made ≡ value n
   unfolding lengthRule
-  length-accepted = rw (counted made (kept .well), kept .many)
+  length-accepted = rw (counts-hold made (kept .well), kept .many)
 
   -- size is 24 x segments + widths + used
   pub size-accepted : sizeRule made ≡ value (24 * segmentsOf made + widthsOf made + usedOf made)
   unfolding sizeRule
-  size-accepted = rw (counted made (kept .well))
+  size-accepted = rw (counts-hold made (kept .well))
 
   -- get(i) is the i-th accepted value
   pub get-accepted : (i : ℕ) → i < n → getRule made i ≡ value (getD taken i 0)
@@ -125,27 +125,27 @@ module _ (m : ℕ) (starts bases offsets widths bytes : List ℕ) (m-least : 1 �
 module _ (x : Index) (audited : auditRule x ≡ wellFormed) where
   -- get
   pub get-never-10 : (p : ℕ) → getRule x p ≡ refused 10 → ⊥
-  get-never-10 p = not-ten (getRule x p) (get-sound x (audit-well x audited) p)
+  get-never-10 p = not-ten (getRule x p) (get-undamaged x (audit-well x audited) p)
 
   -- get_range
   pub range-never-10 : (a b : ℕ) (out : List ℕ) → rangeRule x a b out .answer ≡ refused 10 → ⊥
-  range-never-10 a b out = not-ten (rangeRule x a b out .answer) (range-sound x (audit-well x audited) a b out)
+  range-never-10 a b out = not-ten (rangeRule x a b out .answer) (range-undamaged x (audit-well x audited) a b out)
 
   -- a step of a walk, from any cursor
   pub step-never-10 : (c d : Cursor) → stepRule x c ≡ stays 10 d → ⊥
-  step-never-10 = step-sound x (audit-well x audited)
+  step-never-10 = step-undamaged x (audit-well x audited)
 
   -- target_range
   pub target-never-10 : (p t : ℕ) → targetRule x p t ≡ refused 10 → ⊥
-  target-never-10 p t = not-ten (targetRule x p t) (target-sound x (audit-well x audited) p t)
+  target-never-10 p t = not-ten (targetRule x p t) (target-undamaged x (audit-well x audited) p t)
 
   -- bisect_left
   pub bisect-never-10 : (v : ℕ) → bisectRule x v ≡ refused 10 → ⊥
-  bisect-never-10 v = not-ten (bisectRule x v) (bisect-sound x (audit-well x audited) v)
+  bisect-never-10 v = not-ten (bisectRule x v) (bisect-undamaged x (audit-well x audited) v)
 
   -- bisect_range_left
   pub bisect-range-never-10 : (a b v : ℕ) → bisectRangeRule x a b v ≡ refused 10 → ⊥
-  bisect-range-never-10 a b v = not-ten (bisectRangeRule x a b v) (bisect-range-sound x (audit-well x audited) a b v)
+  bisect-range-never-10 a b v = not-ten (bisectRangeRule x a b v) (bisect-range-undamaged x (audit-well x audited) a b v)
 
   -- push, of any value
   pub push-never-10 : (v : ℕ) → pushRule x v .answer ≡ refused 10 → ⊥
@@ -170,12 +170,17 @@ module _ (x : Index) where
   pub walk-there : (a b : ℕ) (vs : List ℕ) → reads x a (b - a) ≡ value vs → Walks x (cursor a b) vs
   walk-there a b vs = reads-walk x (b - a) a b vs refl
 
-  -- after the halving over starts, starts[s] is never above p
+  -- and a walk that opens over a..b and meets no refusal gives what get_range(a..b) writes
+  pub walk-as-range : (a b : ℕ) (c : Cursor) (vs out : List ℕ) → iterRule x a b ≡ value c → Walks x c vs → b - a ≤ length out
+      → rangeRule x a b out ≡ ranged (value (b - a)) (vs ++ drop (b - a) out)
+  walk-as-range = walk-range x
+
+  -- after the halving over starts, starts[s] is never above p: no input meets that test of get
   pub start-not-above : (p : ℕ) → 0 < startsUpTo x p → start x (startsUpTo x p - 1) ≤ p
   unfolding startsUpTo
   start-not-above = upto-last (x .starts) (segmentsOf x)
 
-  -- after the halving over bases, bases[s] is never above v
+  -- after the halving over bases, bases[s] is never above v: no input meets that test of bisect_left
   pub base-not-above : (v : ℕ) → 0 < basesUpTo x v → base x (basesUpTo x v - 1) ≤ v
   unfolding basesUpTo
   base-not-above = upto-last (x .bases) (segmentsOf x)

@@ -15,7 +15,7 @@ use Rattle.laws.proofs.Tests.{taken}
 use Rattle.laws.proofs.Bytes.{delta-room}
 use Rattle.demands.proofs.Compare.{by-less, by-order}
 use Rattle.demands.proofs.WellFormed.{WellFormed, edge-at, edge-last, mark-at}
-use Rattle.demands.proofs.Bounds.{counted, edge-mono, edge-most}
+use Rattle.demands.proofs.Bounds.{counts-hold, edge-mono, edge-most}
 use Rattle.demands.proofs.Holds.{itemOf, Holds}
 use Rattle.demands.proofs.Run.{Keeps}
 use Rattle.demands.proofs.Search.{upto-within, upto-last, upto-next}
@@ -96,7 +96,7 @@ module _ (x : Index) (w : WellFormed x) where
       let f = found p g in
       let f0 = f .0 in
       let e = in-one (startsUpTo x p - 1) s p (f .1) (record { inside = h; from = omega arith; before = l }) in
-      rw (counted x w, lt-ltb p (lengthOf x) g, ne-eqb (startsUpTo x p) 0 (λ z. omega arith), e) (read-in s i h l)
+      rw (counts-hold x w, lt-ltb p (lengthOf x) g, ne-eqb (startsUpTo x p) 0 (λ z. omega arith), e) (read-in s i h l)
 
   -- get answers what the index holds
   get-holds : (p v : ℕ) → Holds x p v → getRule x p ≡ value v

@@ -16,7 +16,7 @@ use Rattle.laws.proofs.Widths.{width-holds, width-least, width-most}
 use Rattle.demands.specs.Terms.{RoomFor}
 use Rattle.demands.proofs.Compare.{by-less}
 use Rattle.demands.proofs.WellFormed.{WellFormed}
-use Rattle.demands.proofs.Bounds.{counted, length-least, used-most}
+use Rattle.demands.proofs.Bounds.{counts-hold, length-least, used-most}
 use Rattle.demands.proofs.Holds.{OneMore}
 use Rattle.demands.proofs.NewSegment.{Gap, segment-more}
 use Rattle.demands.proofs.NewDelta.{Storable, Last, last-bare, last-whole, delta-more}
@@ -105,7 +105,7 @@ module _ (x : Index) (w : WellFormed x) (v : ℕ) where
   unfolding planOf
   plan-allowed =
       let c = w .counts in
-      rw (counted x w)
+      rw (counts-hold x w)
       (pick-case (Allowed x v) (eqb (segmentsOf x) 0)
       (λ e. let z = eqb-true (segmentsOf x) 0 e in segment-allowed (omega arith) (λ h k l. absurd (omega arith)))
       (λ e.

@@ -1,17 +1,18 @@
 -- A walk on any index and tables: its steps are get at next, next + 1 and so on, so it gives what reads gives, and back.
 use Prim.Native.Nat.{ℕ, zero, suc, _+_, _-_, _≤_, _<_}
-use mathlib.Core.List.{List, [], _∷_}
+use mathlib.Core.List.{List, [], _∷_, _++_}
 use mathlib.Core.Path.{_≡_, refl, sym, ap, _∙_, subst}
 use native.Mathlib.Omega.{arith}
 use native.Mathlib.Numerals.{add-one}
-use lib.ListN.{length}
+use lib.ListN.{length, drop}
 use borrow.Author.Tests.{le-leb, lt-leb}
 use Rattle.rules.specs.declared.Cursor.{Cursor}
 use Rattle.rules.specs.Words.{Answer, value, refused}
 use Rattle.rules.specs.Record.{Index}
-use Rattle.rules.specs.Reading.{getRule, before, reads, cursor, done, gave, moved, stepRule}
+use Rattle.rules.specs.Reading.{getRule, before, reads, ranged, rangeRule, cursor, iterRule, done, gave, moved, stepRule}
 use Rattle.demands.specs.Terms.{Walks}
 use Rattle.demands.proofs.Compare.{by-less, value-refused}
+use Rattle.demands.proofs.Ranges.{range-within, iter-opens, range-reads}
 
 -- a step that reads is not done
 moved-done {ℓ} : {P : Type ℓ} (c : Cursor) (a : Answer ℕ) → moved c a ≡ done → P
@@ -23,7 +24,7 @@ moved-gave : (c : Cursor) (a : Answer ℕ) (v : ℕ) (next : Cursor) → moved c
 moved-gave c (value u) v next e = (cc, cc)
 moved-gave c (refused n) v next e = let z : _≡_ {A = ℕ} 0 1 = cc in absurd (omega arith)
 
--- values in front of others: each is one
+-- an answer in front of others that give values: all are values
 before-value : (a : Answer ℕ) (r : Answer (List ℕ)) (vs : List ℕ) → before a r ≡ value vs
     → (v : ℕ) × (us : List ℕ) × (a ≡ value v) × (r ≡ value us) × (v ∷ us ≡ vs)
 before-value (value v) (value us) vs e = (v, us, refl, refl, cc)
@@ -66,3 +67,14 @@ module _ (x : Index) where
       let f = before-value (getRule x a) (reads x (suc a) n) vs e in
       let rest : Walks x (cursor (a + 1) b) (f .1) = rw (add-one a) (reads-walk n (suc a) b (f .1) (omega arith) (f .3)) in
       subst (Walks x (cursor a b)) (f .4) (cursor (a + 1) b, step-reads a b (omega arith) ∙ ap (moved (cursor a b)) (f .2), rest)
+
+  -- a walk that opens gives what get_range writes
+  pub walk-range : (a b : ℕ) (c : Cursor) (vs out : List ℕ) → iterRule x a b ≡ value c → Walks x c vs → b - a ≤ length out
+      → rangeRule x a b out ≡ ranged (value (b - a)) (vs ++ drop (b - a) out)
+  unfolding iterRule
+  walk-range a b c vs out e s o =
+      let w = range-within x a b _ c e in
+      let f = iter-opens x a b w in
+      let same : c ≡ cursor a b = cc in
+      let r = walk-reads vs a b (rw same at s) in
+      range-reads x a b vs out w (r .0) (r .1) o
