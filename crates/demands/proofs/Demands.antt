@@ -21,7 +21,7 @@ use Rattle.demands.proofs.Bisect.{bisect-counts}
 use Rattle.demands.proofs.Ranges.{reads-kept, range-kept, iter-kept, target-kept, target-last, bisect-range-counts}
 use Rattle.demands.proofs.Walks.{walk-reads, reads-walk, walk-range}
 use Rattle.demands.proofs.DeltaRun.{run-count, run-value}
-use Rattle.demands.proofs.Room.{refused-most, refused-below}
+use Rattle.demands.proofs.Room.{accepted-most, refused-most, refused-below}
 use Rattle.demands.proofs.Undamaged.{not-ten, get-undamaged, range-undamaged, step-undamaged, target-undamaged, bisect-undamaged, bisect-range-undamaged}
 
 -- A run: a fresh index with m 1 to 8 over any lent tables, and any u64 values pushed one after another, refused ones included
@@ -56,25 +56,26 @@ module _ (m : ℕ) (starts bases offsets widths bytes : List ℕ) (m-least : 1 �
 
   -- segments <= (n + 1) / 2
   pub run-half : segmentsOf made ≤ (n + 1) / 2
-  run-half = let l = kept .many in let h = segments-half made (kept .well) in omega arith
+  run-half = let len = kept .many in let h = segments-half made (kept .well) in omega arith
 
   -- from the first value on, the last base is not below the first
   pub run-bases : 1 ≤ n → base made 0 ≤ base made (lastOf made)
-  run-bases h = let l = kept .many in last-above made (kept .well) (omega arith)
+  run-bases h = let len = kept .many in last-above made (kept .well) (omega arith)
 
   -- and segments <= 1 + (last base - first base) / 256^m
   pub run-spread : 1 ≤ n → segmentsOf made ≤ 1 + (base made (lastOf made) - base made 0) / 256 ^ m
-  run-spread h = let l = kept .many in rw run-minimum at (segments-spread made (kept .well) (omega arith))
+  run-spread h = let len = kept .many in rw run-minimum at (segments-spread made (kept .well) (omega arith))
 
-  -- Room for k values, and fewer than k pushes so far: the next push, of whatever value, is refused only because its value is below the base
-  pub room-below : (k : ℕ) → RoomFor (roomOf new) k → length us < k → (v e : ℕ) → pushRule made v .answer ≡ refused e → e ≡ 1
-  room-below k r l v e q = refused-below new us k v e refl (kept .well) r l q
+  -- Room for k values, fewer than k accepted so far: the next push, of whatever value, is refused only because its value is below the base
+  pub room-below : (k : ℕ) → RoomFor (roomOf new) k → n < k → (v e : ℕ) → pushRule made v .answer ≡ refused e → e ≡ 1
+  room-below k r l v e q = let len = kept .many in refused-below new us k v e (kept .well) r (omega arith) q
 
-  -- so it is not refused 2, nor 3, nor 4
+  -- so none of the first k pushes is refused 2, nor 3, nor 4
   pub room-enough : (k : ℕ) → RoomFor (roomOf new) k → length us < k → (v : ℕ)
       → (pushRule made v .answer ≡ refused 2 → ⊥) × (pushRule made v .answer ≡ refused 3 → ⊥) × (pushRule made v .answer ≡ refused 4 → ⊥)
   room-enough k r l v =
-      let one = room-below k r l v in
+      let most = accepted-most us new in
+      let one = room-below k r (omega arith) v in
       ((λ q. let e = one 2 q in omega arith), (λ q. let e = one 3 q in omega arith), (λ q. let e = one 4 q in omega arith))
 
   -- Round trip: length is n

@@ -1,15 +1,15 @@
 -- With room for n values none of the first n pushes lacks room: fewer than n values make fewer segments and bytes than that.
-use Prim.Native.Nat.{ℕ, _+_, _≤_, _<_}
+use Prim.Native.Nat.{ℕ, suc, _≤_, _<_}
 use mathlib.Core.List.{List, [], _∷_}
 use mathlib.Core.Path.{_≡_, refl, sym, subst}
 use native.Mathlib.Omega.{arith}
 use lib.ListN.{length, length-set}
 use lib.Seq.{length-sets}
 use Rattle.rules.specs.declared.Room.{Room}
-use Rattle.rules.specs.Words.{refused}
+use Rattle.rules.specs.Words.{Answer, value, refused}
 use Rattle.rules.specs.Record.{Index, lengthOf, segmentsOf, widthsOf, usedOf, roomOf}
 use Rattle.rules.specs.Push.{deltaBytes, Plan, refuse, segment, first, more, planOf, effect, pushRule}
-use Rattle.rules.specs.Run.{run}
+use Rattle.rules.specs.Run.{run, ifTaken, accepted}
 use Rattle.demands.specs.Terms.{RoomFor}
 use Rattle.demands.proofs.Compare.{value-refused}
 use Rattle.demands.proofs.WellFormed.{WellFormed}
@@ -24,18 +24,19 @@ room-same x v segment =
 room-same x v (first d w) = rw (length-set (x .widths) (widthsOf x) w, length-sets (x .bytes) (usedOf x) (deltaBytes w d))
 room-same x v (more d w) = rw (length-sets (x .bytes) (usedOf x) (deltaBytes w d))
 
--- and adds at most one value
-length-most : (x : Index) (v : ℕ) (p : Plan) → lengthOf (effect x v p .left) ≤ lengthOf x + 1
-length-most x v (refuse e) = omega arith
-length-most x v segment = omega arith
-length-most x v (first d w) = omega arith
-length-most x v (more d w) = omega arith
+-- a push adds at most one value
+taken-most : (a : Answer ℕ) (v : ℕ) (vs : List ℕ) → length (ifTaken a v vs) ≤ suc (length vs)
+taken-most (value p) v vs = omega arith
+taken-most (refused e) v vs = omega arith
 
--- a run adds at most one value for each push
-run-length : (us : List ℕ) (x : Index) → lengthOf (run x us) ≤ lengthOf x + length us
-unfolding run pushRule
-run-length [] x = omega arith
-run-length (v ∷ us) x = let r = run-length us (pushRule x v .left) in let l = length-most x v (planOf x v) in omega arith
+-- no more values are accepted than were pushed
+pub accepted-most : (us : List ℕ) (x : Index) → length (accepted x us) ≤ length us
+unfolding accepted
+accepted-most [] x = omega arith
+accepted-most (v ∷ us) x =
+    let r = accepted-most us (pushRule x v .left) in
+    let t = taken-most (pushRule x v .answer) v (accepted (pushRule x v .left) us) in
+    omega arith
 
 -- a plan that is refused is that refusal
 plan-refused : (x : Index) (v e : ℕ) (p : Plan) → Allowed x v p → effect x v p .answer ≡ refused e → Allowed x v (refuse e)
@@ -53,9 +54,7 @@ push-refused x w v e q = plan-refused x v e (planOf x v) (plan-allowed x w v) q
 pub refused-most : (x : Index) → WellFormed x → (v e : ℕ) → pushRule x v .answer ≡ refused e → e ≤ 4
 refused-most x w v e q = push-refused x w v e q .0
 
--- after fewer than n pushes into an empty index with room for n values, a push is refused only because its value is below the base
-pub refused-below : (x : Index) (us : List ℕ) (n v e : ℕ) → lengthOf x ≡ 0 → WellFormed (run x us) → RoomFor (roomOf x) n → length us < n
+-- after a run in tables with room for n values, a push behind fewer than n is refused only because its value is below the base
+pub refused-below : (x : Index) (us : List ℕ) (n v e : ℕ) → WellFormed (run x us) → RoomFor (roomOf x) n → lengthOf (run x us) < n
     → pushRule (run x us) v .answer ≡ refused e → e ≡ 1
-refused-below x us n v e z w r l q =
-    let most = run-length us x in
-    push-refused (run x us) w v e q .1 n (omega arith) (subst (λ (s : Room). RoomFor s n) (sym (run-same roomOf room-same us x)) r)
+refused-below x us n v e w r l q = push-refused (run x us) w v e q .1 n l (subst (λ (s : Room). RoomFor s n) (sym (run-same roomOf room-same us x)) r)
