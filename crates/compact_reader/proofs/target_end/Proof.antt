@@ -1,3 +1,9 @@
+use mathlib.Core.Path.{sym, ap, _∙_}
+use native.Mathlib.Omega.{arith}
+use Prim.Native.Nat.{_+_, _≤_, _<_}
+use borrow.Author.Tests.{lt-ltb, le-ltb}
+use Rattle.rules.specs.Reading.{targetEnd}
+use Rattle.rules.specs.Refusals.{answerOf}
 use borrow.Author.Needs.{needs}
 use Rattle.compact_reader.proofs.target_end.Statement.{statement}
 use Rattle.compact_reader.proofs.target_end.Tie as tie
@@ -8,11 +14,17 @@ use Rattle.index_stream.proofs.least.Reads as least-reads
 
 -- src/lib.rt:167:9
 returns : tie.Need-returns
-returns c = ?
+unfolding targetEnd
+returns c = 
+    let a = c .before .before .before .before .before .before .args in
+    rw (lt-ltb (a .s .length) (a .p + 2) (omega arith), targetEnd)
 
 -- src/lib.rt:170:9
 returns-2 : tie.Need-returns-2
-returns-2 c = ?
+unfolding targetEnd
+returns-2 c = 
+    let a = c .before .before .before .before .before .before .before .args in
+    rw (lt-ltb (a .s .length) (a .p + 2) (omega arith), targetEnd)
 
 -- src/lib.rt:172:57
 add-get : tie.Need-add-get
@@ -36,11 +48,17 @@ enum-known-e c = search needs
 
 -- src/lib.rt:153:1
 returns-3 : tie.Need-returns-3
-returns-3 c = ?
+unfolding targetEnd
+returns-3 c = 
+    let a = c .before .before .before .before .before .before .before .before .before .before .before .before .args in
+    rw (le-ltb (a .s .length) (a .p + 2) (omega arith), sym (c .before .before .before .before .get .ensures) ∙ ap answerOf (c .before .before .next .given .1), c .least .ensures, targetEnd)
 
 -- src/lib.rt:153:1
 returns-4 : tie.Need-returns-4
-returns-4 c = ?
+unfolding targetEnd
+returns-4 c = 
+    let a = c .before .before .before .before .before .before .before .before .before .before .before .args in
+    rw (le-ltb (a .s .length) (a .p + 2) (omega arith), sym (c .before .before .before .get .ensures) ∙ ap answerOf (c .before .e .given .1), targetEnd)
 
 pub target-end-spec : {M : Type 1} → statement M
 target-end-spec =

@@ -1,3 +1,6 @@
+use mathlib.Core.Path.{sym, ap, _∙_}
+use Rattle.rules.specs.Reading.{targetRule}
+use Rattle.rules.specs.Refusals.{answerOf}
 use borrow.Author.Needs.{needs}
 use Rattle.compact_reader.proofs.target_range.Statement.{statement}
 use Rattle.compact_reader.proofs.target_range.Tie as tie
@@ -32,15 +35,18 @@ enum-known-e-2 c = search needs
 
 -- src/lib.rt:131:1
 returns : tie.Need-returns
-returns c = ?
+unfolding targetRule
+returns c = rw (sym (c .before .before .before .before .before .before .before .get .ensures) ∙ ap answerOf (c .before .before .before .before .before .from .given .1), sym (c .before .before .before .target-end .ensures) ∙ ap answerOf (c .before .to .given .1), targetRule)
 
 -- src/lib.rt:131:1
 returns-2 : tie.Need-returns-2
-returns-2 c = ?
+unfolding targetRule
+returns-2 c = rw (sym (c .before .before .before .before .before .before .before .get .ensures) ∙ ap answerOf (c .before .before .before .before .before .from .given .1), sym (c .before .before .before .target-end .ensures) ∙ ap answerOf (c .before .e .given .1), targetRule)
 
 -- src/lib.rt:131:1
 returns-3 : tie.Need-returns-3
-returns-3 c = ?
+unfolding targetRule
+returns-3 c = rw (sym (c .before .before .before .get .ensures) ∙ ap answerOf (c .before .e2 .given .1), targetRule)
 
 pub target-range-spec : {M : Type 1} → statement M
 target-range-spec =
