@@ -15,7 +15,7 @@ use Rattle.rules.specs.Push as rule
 use Rattle.laws.proofs.Tests.{pick-case, if-case}
 use Rattle.laws.proofs.Counts.{counts-facts}
 use Rattle.promises.specs.Sentences.{Sentence}
-use Rattle.promises.specs.Table.{HasWidth, WidthDue, need, SegmentDue, BytesDue, lastDamaged, below, segmentRoom, widthRoom, dataRoom, pushTable}
+use Rattle.promises.specs.Table.{CountsRule, HasWidth, WidthDue, need, SegmentDue, BytesDue, lastDamaged, below, segmentRoom, widthRoom, dataRoom, pushTable}
 use Rattle.promises.proofs.Deciding.{Decided, pass, stop, go-on, or-else, within, full-or}
 use Rattle.promises.proofs.CountsRule.{counts-rule, counts-broken}
 
@@ -118,3 +118,10 @@ module _ (x : Index) (v : ℕ) where
       (λ t. next-decided c (omega arith, ltb-true (lastOf x) (widthsOf x) t))
       (λ t. first-decided c (omega arith, ltb-false (lastOf x) (widthsOf x) t)))))
       (λ c. stop (counts-broken x .1 c))
+
+  -- 1 and 2 never meet: below the base need is m, and a width that is not damaged holds it
+  pub below-alone : CountsRule x → (lastDamaged x .says → ⊥) → below x v .says → SegmentDue x v → ⊥
+  below-alone c good b (inl z) = omega arith
+  below-alone c good b (inr s) =
+      let one = c .minimum in let none-left : v - base x (lastOf x) ≡ 0 = omega arith in let over = rw none-left at (s .1) in
+      good (s .0, inl (omega arith))

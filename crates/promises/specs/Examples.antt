@@ -42,8 +42,8 @@ abbrev pub single : List ℕ → List ℕ → Index
 single widths bytes = index (state 1 1 1 0 0) (0 ∷ []) (10 ∷ []) (0 ∷ []) widths bytes
 
 -- two values, the width is damaged
-abbrev pub lame : Index
-lame = two (9 ∷ []) (1 ∷ [])
+abbrev pub badWidth : Index
+badWidth = two (9 ∷ []) (1 ∷ [])
 
 -- two values, the second in two bytes, and room for one byte more
 abbrev pub wide : Index
@@ -62,31 +62,31 @@ unfoldable pub examples : List Example
 examples =
     refusal (openRule 0) gives 11 ∷ refusal (openRule 9) gives 11
     ∷ refusal (pushRule broken 600 .answer) gives 9
-    ∷ refusal (pushRule lame 11 .answer) gives 10
+    ∷ refusal (pushRule badWidth 11 .answer) gives 10
     ∷ refusal (pushRule (two (1 ∷ []) (1 ∷ [])) 9 .answer) gives 1
     ∷ refusal (pushRule (two (1 ∷ []) (1 ∷ [])) 300 .answer) gives 2
     ∷ refusal (pushRule (single [] (7 ∷ [])) 11 .answer) gives 3
     ∷ refusal (pushRule (single (7 ∷ []) []) 11 .answer) gives 4
     ∷ refusal (pushRule (two (1 ∷ []) (1 ∷ [])) 11 .answer) gives 4
     ∷ refusal (pushRule wide 11 .answer) gives 4
-    ∷ refusal (pushRule lame 9 .answer) gives 10
+    ∷ refusal (pushRule badWidth 9 .answer) gives 10
     ∷ refusal (pushRule (single [] []) 9 .answer) gives 1
     ∷ refusal (pushRule (single [] []) 11 .answer) gives 3
     ∷ refusal (lengthRule broken) gives 9 ∷ refusal (sizeRule broken) gives 9 ∷ refusal (lengthRule (single [] [])) gives 0
-    ∷ refusal (getRule broken 0) gives 9 ∷ refusal (getRule w9 5) gives 5 ∷ refusal (getRule lame 1) gives 10
+    ∷ refusal (getRule broken 0) gives 9 ∷ refusal (getRule w9 5) gives 5 ∷ refusal (getRule badWidth 1) gives 10
     ∷ refusal (getRule (topmost 1) 1) gives 10 ∷ refusal (getRule (topmost 0) 1) gives 0
     ∷ refusal (getRule broken 5) gives 9
     ∷ refusal (rangeRule broken 0 1 (7 ∷ []) .answer) gives 9
     ∷ refusal (rangeRule w9 0 6 (7 ∷ []) .answer) gives 6
     ∷ refusal (rangeRule w9 3 2 (7 ∷ []) .answer) gives 7
     ∷ refusal (rangeRule w9 0 2 (7 ∷ []) .answer) gives 8
-    ∷ refusal (rangeRule lame 0 2 (7 ∷ 7 ∷ []) .answer) gives 10
+    ∷ refusal (rangeRule badWidth 0 2 (7 ∷ 7 ∷ []) .answer) gives 10
     ∷ refusal (rangeRule w9 7 6 (7 ∷ []) .answer) gives 6
-    ∷ refusal (rangeRule lame 0 2 (7 ∷ []) .answer) gives 8
+    ∷ refusal (rangeRule badWidth 0 2 (7 ∷ []) .answer) gives 8
     ∷ refusal (iterRule broken 0 1) gives 9 ∷ refusal (iterRule w9 0 6) gives 6 ∷ refusal (iterRule w9 3 2) gives 7
     ∷ stepRefusal (stepRule broken (cursor 0 1)) gives 9
     ∷ stepRefusal (stepRule w9 (cursor 5 6)) gives 5
-    ∷ stepRefusal (stepRule lame (cursor 1 2)) gives 10
+    ∷ stepRefusal (stepRule badWidth (cursor 1 2)) gives 10
     ∷ stepRefusal (stepRule broken (cursor 1 1)) gives 0
     ∷ refusal (runCountRule (7 ∷ []) 0) gives 10 ∷ refusal (runCountRule (7 ∷ []) 9) gives 10
     ∷ refusal (runValueRule (7 ∷ []) 0 0 0) gives 10
@@ -94,10 +94,10 @@ examples =
     ∷ refusal (runValueRule (7 ∷ []) (2 ^ 64 - 7) 1 0) gives 10
     ∷ refusal (runValueRule (7 ∷ []) 0 9 1) gives 10
     ∷ refusal (targetRule broken 0 600) gives 9 ∷ refusal (targetRule w9 5 600) gives 5
-    ∷ refusal (targetRule lame 1 600) gives 10 ∷ refusal (targetRule lame 0 0) gives 10
-    ∷ refusal (bisectRule broken 0) gives 9 ∷ refusal (bisectRule lame 11) gives 10 ∷ refusal (bisectRule late 10) gives 10
+    ∷ refusal (targetRule badWidth 1 600) gives 10 ∷ refusal (targetRule badWidth 0 0) gives 10
+    ∷ refusal (bisectRule broken 0) gives 9 ∷ refusal (bisectRule badWidth 11) gives 10 ∷ refusal (bisectRule late 10) gives 10
     ∷ refusal (bisectRangeRule broken 0 1 0) gives 9
     ∷ refusal (bisectRangeRule w9 0 6 0) gives 6
     ∷ refusal (bisectRangeRule w9 3 2 0) gives 7
-    ∷ refusal (bisectRangeRule lame 0 0 11) gives 10
+    ∷ refusal (bisectRangeRule badWidth 0 0 11) gives 10
     ∷ []
