@@ -4,7 +4,7 @@ use mathlib.Core.List.{List, [], _∷_, _++_}
 use mathlib.Core.Logic.{_↔_, _⊎_}
 use mathlib.Core.Path.{_≡_}
 use lib.ListN.{length}
-use Rattle.rules.specs.Record.{Index, minimumOf, lengthOf, segmentsOf, widthsOf, usedOf, lastOf, start, base, offset, width, mark}
+use Rattle.rules.specs.Record.{Index, minimumOf, lengthOf, segmentsOf, widthsOf, usedOf, lastOf, start, base, offset, width, mark, segmentLimit, dataLimit}
 use Rattle.rules.specs.Push.{needOf, deltaAt}
 use Rattle.rules.specs.Reading.{startsUpTo, basesUpTo}
 use Rattle.promises.specs.Sentences.{Sentence, _if_}
@@ -18,11 +18,11 @@ pub record CountsRule (x : Index) : Type 0 where
   -- m is 1 to 8
   pub minimum : (1 ≤ minimumOf x) × (minimumOf x ≤ 8)
   -- segments is at most 65,535 and at most the length of each u64 table
-  pub segments : (segmentsOf x ≤ 65535) × (segmentsOf x ≤ length (x .starts)) × (segmentsOf x ≤ length (x .bases)) × (segmentsOf x ≤ length (x .offsets))
+  pub segments : (segmentsOf x ≤ segmentLimit) × (segmentsOf x ≤ length (x .starts)) × (segmentsOf x ≤ length (x .bases)) × (segmentsOf x ≤ length (x .offsets))
   -- widths is at most its table's length
   pub widths : widthsOf x ≤ length (x .widths)
   -- used is at most the data length and 4,294,967,295
-  pub used : (usedOf x ≤ length (x .bytes)) × (usedOf x ≤ 4294967295)
+  pub used : (usedOf x ≤ length (x .bytes)) × (usedOf x ≤ dataLimit)
   -- segments is 0 exactly when length is 0
   pub empty : (segmentsOf x ≡ 0) ↔ (lengthOf x ≡ 0)
   -- and then widths and used are 0
@@ -75,7 +75,7 @@ below x v = 1 if ((0 < segmentsOf x) × (v < base x (lastOf x)))
 abbrev pub segmentRoom : Index → ℕ → Sentence
 segmentRoom x v =
     2 if (SegmentDue x v
-    × ((segmentsOf x ≡ 65535)
+    × ((segmentsOf x ≡ segmentLimit)
     ⊎ (segmentsOf x ≡ length (x .starts)) ⊎ (segmentsOf x ≡ length (x .bases)) ⊎ (segmentsOf x ≡ length (x .offsets))))
 
 -- 3 WidthRoom: a width is due and its table is full
@@ -84,7 +84,7 @@ widthRoom x = 3 if (WidthDue x × (widthsOf x ≡ length (x .widths)))
 
 -- 4 DataRoom: used + bytes due exceeds the data length or 4,294,967,295
 abbrev pub dataRoom : Index → ℕ → Sentence
-dataRoom x v = 4 if ((n : ℕ) × BytesDue x v n × ((length (x .bytes) < usedOf x + n) ⊎ (4294967295 < usedOf x + n)))
+dataRoom x v = 4 if ((n : ℕ) × BytesDue x v n × ((length (x .bytes) < usedOf x + n) ⊎ (dataLimit < usedOf x + n)))
 
 -- push: 9, then 10, 1, 2, 3, 4
 abbrev pub pushTable : Index → ℕ → List Sentence
