@@ -9,7 +9,7 @@ use lib.ListN.{length}
 use lib.Dec.{ltb, eqb}
 use borrow.Author.Tests.{ltb-true, ltb-false, eqb-true, eqb-false}
 use Rattle.rules.specs.Words.{value, _≤?_, _<?_, unless-all}
-use Rattle.rules.specs.Record.{Index, minimumOf, lengthOf, segmentsOf, widthsOf, usedOf, lastOf, base, width, roomOf, widthTests, countsHold}
+use Rattle.rules.specs.Record.{Index, minimumOf, lengthOf, segmentsOf, widthsOf, usedOf, lastOf, base, width, roomOf, segmentLimit, dataLimit, widthTests, countsHold}
 use Rattle.rules.specs.Push.{Plan, refuse, first, more, segmentPlan, firstPlan, nextPlan, planOf, effect, pushRule}
 use Rattle.rules.specs.Push as rule
 use Rattle.laws.proofs.Tests.{pick-case, if-case}
@@ -54,7 +54,7 @@ module _ (x : Index) (v : ℕ) where
   bytes-decided n p due e =
       if-case (Planned x v (dataRoom x v ∷ [])) (rule.dataRoom (x .state) (roomOf x) n)
       (λ f. rw e (pass (λ d. let q = one-due (d .0) n (d .1) due in ⊎-elim (λ over. omega arith) (λ over. omega arith) (d .2))))
-      (λ never. stop (n, due, or-else (usedOf x + n) (length (x .bytes)) (λ a. let over : usedOf x + n ≤ 4294967295 → ⊥ = λ b. never (a, (b, tt)) in omega arith)))
+      (λ never. stop (n, due, or-else (usedOf x + n) (length (x .bytes)) (λ a. let over : usedOf x + n ≤ dataLimit → ⊥ = λ b. never (a, (b, tt)) in omega arith)))
 
   -- a new segment is due: 2 alone can be given
   segment-decided : countsHold x ≡ true → SegmentDue x v
@@ -68,7 +68,7 @@ module _ (x : Index) (v : ℕ) where
       (pass (λ d. let q = one-due (d .0) 0 (d .1) (inl (due, refl)) in ⊎-elim (λ over. omega arith) (λ over. omega arith) (d .2)))))
       (λ never. stop (
         due,
-        full-or s 65535 (omega arith) (λ a. full-or s (length (x .starts)) (omega arith) (λ b. full-or s (length (x .bases)) (omega arith) (λ d.
+        full-or s segmentLimit (omega arith) (λ a. full-or s (length (x .starts)) (omega arith) (λ b. full-or s (length (x .bases)) (omega arith) (λ d.
             let full : s < length (x .offsets) → ⊥ = λ l. never (a, (b, (d, (l, tt)))) in omega arith))),
       ))
 

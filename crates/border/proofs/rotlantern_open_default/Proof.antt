@@ -1,22 +1,16 @@
+-- The core function meets the rule; what it answered is told as the border tells it.
 use borrow.Author.Needs.{needs}
 use Rattle.border.proofs.rotlantern_open_default.Statement.{statement}
 use Rattle.border.proofs.rotlantern_open_default.Tie as tie
-use Rattle.border.proofs.rotlantern_open_default.Reads as reads
-use Rattle.border.proofs.rotlantern_open_default.Lts as lts
-use Rattle.compact_writer.proofs.default_index.Reads as default-index-reads
-use Rattle.crossing.proofs.store_state.Reads as store-state-reads
 
--- src/lib.rt:21:34
 default-index-requires : tie.Need-default-index-requires
 default-index-requires c κs = search needs
 
--- src/lib.rt:21:5
 store-state-requires : tie.Need-store-state-requires
 store-state-requires c κs = search needs
 
--- src/lib.rt:17:1
 returns : tie.Need-returns
-returns c = ?
+returns c = rw (c .store-state .ensures, c .before .default-index .ensures)
 
 pub rotlantern-open-default-spec : {M : Type 1} → statement M
 rotlantern-open-default-spec =
