@@ -25,10 +25,10 @@ pub fn length(
 ) -> Got
     ensures { λ r. ⌜ answerOf r ≡ lengthRule (index s (now (starts .entry)) (now (bases .entry)) (now (offsets .entry)) (now (widths .entry)) (now (bytes .entry))) ⌝ }
 {
-    if !tables::counts_hold(s, starts, bases, offsets, widths, bytes) {
-        return Got::Refused(Refusal::Counts);
+    if tables::counts_hold(s, starts, bases, offsets, widths, bytes) {
+        return Got::Value(s.length);
     }
-    Got::Value(s.length)
+    Got::Refused(Refusal::Counts)
 }
 
 // How many bytes the index takes: three numbers a segment, its widths and its data.
