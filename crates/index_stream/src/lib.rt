@@ -75,7 +75,7 @@ pub fn bisect_right_until(table: &[u64], n: u64, v: u64, limit: u64) -> Found
 }
 
 // The smaller of two numbers.
-fn least(a: u64, b: u64) -> u64
+pub fn least(a: u64, b: u64) -> u64
     ensures { λ r. ⌜ r ≡ min a b ⌝ }
 {
     if a < b {
