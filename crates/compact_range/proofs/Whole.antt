@@ -4,15 +4,20 @@ use mathlib.Core.Bool.{Bool, true, false}
 use mathlib.Core.List.{List, [], _∷_}
 use mathlib.Core.Path.{_≡_, refl, sym, ap, _∙_}
 use native.Mathlib.Omega.{arith}
-use lib.Dec.{ltb, eqb}
+use lib.Dec.{leb, ltb, eqb}
 use lib.ListN.{length, set}
 use lib.Seq.{sets}
 use borrow.Author.Tests.{lt-leb, le-leb, lt-ltb}
-use Rattle.rules.specs.Words.{when, Answer, value, refused}
+use Rattle.rules.specs.declared.Refusal.{Refusal}
+use Rattle.rules.specs.Words.{when, unless, Answer, value, refused}
 use Rattle.rules.specs.Record.{Index, minimumOf, lengthOf, widthsOf, usedOf, start, base, offset, width, countsHold}
-use Rattle.rules.specs.Reading.{damaged, deltaRead, readIn, startsUpTo, getRule, before, reads, ranged, rangeRule}
+use Rattle.rules.specs.Reading.{damaged, deltaRead, readIn, startsUpTo, getRule, before, reads, ranged, written, rangeRule}
+use Rattle.rules.specs.Refusals.{numberOf}
 use Rattle.laws.proofs.Tests.{if-case}
-use Rattle.compact_range.specs.Values.{isValue, valueOf, Values, gets, puts}
+use Rattle.tables.specs.declared.Checked.{Checked}
+use Rattle.tables.specs.Range.{checkedOf, checkRule}
+use Rattle.tables.proofs.Range as check
+use Rattle.compact_range.specs.Values.{isValue, valueOf, gets, puts}
 use Rattle.compact_range.proofs.Deciding.{reads-at}
 use Rattle.compact_range.proofs.Writing.{puts-join}
 
@@ -33,7 +38,10 @@ puts-sets f from zero out = refl
 puts-sets f from (suc n) out =
     let e : from + 1 ≡ suc from = omega arith in
     let z : from + 0 ≡ from = omega arith in
-    sym (puts-join f (λ i. f (suc i)) from 1 n out (λ j h. let y : suc j ≡ 1 + j = omega arith in ap f y)) ∙ rw (e, puts, z) (puts-sets (λ i. f (suc i)) (suc from) n (set out from (f 0)))
+    let m : suc n ≡ 1 + n = omega arith in
+    ap (λ (k : ℕ). puts f from k out) m
+    ∙ sym (puts-join f (λ i. f (suc i)) from 1 n out (λ j h. let y : suc j ≡ 1 + j = omega arith in ap f y))
+    ∙ rw (e, puts, z) (puts-sets (λ i. f (suc i)) (suc from) n (set out from (f 0)))
 
 -- a range of values is the list of them
 reads-firsts : (x : Index) (n a : ℕ) (f : ℕ → ℕ) → ((i : ℕ) → i < n → getRule x (a + i) ≡ value (f i)) → reads x a n ≡ value (firsts f n)
@@ -92,26 +100,20 @@ reads-or x (suc n) a c h = before-or (getRule x a) (reads x (suc a) n) (get-or x
 
 -- the returns of get_range, in its order
 module _ (x : Index) (a b : ℕ) (out : List ℕ) where
-  pub range-counts : countsHold x ≡ false → ranged (refused 9) out ≡ rangeRule x a b out
+  pub range-refused : {c : Checked} {e : Refusal} → checkedOf c ≡ checkRule x a b → c ≡ Checked.Refused e → ranged (refused (numberOf e)) out ≡ rangeRule x a b out
   unfolding rangeRule
-  range-counts e = rw (e, rangeRule)
+  range-refused r e = ap (written out) (check.range-refused x a b (unless (leb (b - a) (length out)) (refused 8) (reads x a (b - a))) r e)
 
-  pub range-end : countsHold x ≡ true → lengthOf x < b → ranged (refused 6) out ≡ rangeRule x a b out
-  unfolding rangeRule
-  range-end c e = rw (c, lt-leb b (lengthOf x) e, rangeRule)
-
-  pub range-reversed : countsHold x ≡ true → b ≤ lengthOf x → b < a → ranged (refused 7) out ≡ rangeRule x a b out
-  unfolding rangeRule
-  range-reversed c e l = rw (c, le-leb b (lengthOf x) e, lt-leb a b l, rangeRule)
-
-  module _ (c : countsHold x ≡ true) (e : b ≤ lengthOf x) (l : a ≤ b) where
+  module _ (ok : (countsHold x ≡ true) × (b ≤ lengthOf x) × (a ≤ b)) where
     pub range-room : length out < b - a → ranged (refused 8) out ≡ rangeRule x a b out
     unfolding rangeRule
-    range-room o = rw (c, le-leb b (lengthOf x) e, le-leb a b l, lt-leb (b - a) (length out) o, rangeRule)
+    range-room o = rw (ok .0, le-leb b (lengthOf x) (ok .1), le-leb a b (ok .2), lt-leb (b - a) (length out) o, rangeRule)
 
     pub range-damaged : b - a ≤ length out → isValue (reads x a (b - a)) ≡ false → ranged (refused 10) out ≡ rangeRule x a b out
     unfolding rangeRule
-    range-damaged o r = rw (c, le-leb b (lengthOf x) e, le-leb a b l, le-leb (b - a) (length out) o, reads-or x (b - a) a c (omega arith) r, rangeRule)
+    range-damaged o r =
+        let d = reads-or x (b - a) a (ok .0) (omega arith) r in
+        rw (ok .0, le-leb b (lengthOf x) (ok .1), le-leb a b (ok .2), le-leb (b - a) (length out) o, d, rangeRule)
 
     pub range-values : b - a ≤ length out → isValue (reads x a (b - a)) ≡ true → (left : List ℕ) → left ≡ puts (gets x a) 0 (b - a) out
         → ranged (value (b - a)) left ≡ rangeRule x a b out
@@ -119,4 +121,4 @@ module _ (x : Index) (a b : ℕ) (out : List ℕ) where
     range-values o r left q =
         let f = reads-firsts x (b - a) a (gets x a) (λ i h. value-is (getRule x (a + i)) (reads-at x (b - a) a r (a + i) (omega arith) (omega arith))) in
         let n = firsts-length (gets x a) (b - a) in
-        rw (q, puts-sets (gets x a) 0 (b - a) out, c, le-leb b (lengthOf x) e, le-leb a b l, le-leb (b - a) (length out) o, f, n, rangeRule)
+        rw (q, puts-sets (gets x a) 0 (b - a) out, ok .0, le-leb b (lengthOf x) (ok .1), le-leb a b (ok .2), le-leb (b - a) (length out) o, f, n, rangeRule)

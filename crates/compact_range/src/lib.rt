@@ -3,6 +3,7 @@ use rules::Got;
 use rules::Refusal;
 use rules::State;
 use rules::Width;
+use tables::Checked;
 ghost use mathlib.Core.Path.{_≡_};
 ghost use mathlib.Core.Bool.{true};
 ghost use Prim.Native.Nat.{_+_, _-_, _*_, _≤_, _<_};
@@ -28,14 +29,8 @@ pub fn get_range(
 ) -> Got
     ensures { λ r. ⌜ ranged (answerOf r) (now (out .exit)) ≡ rangeRule (index s (now (starts .entry)) (now (bases .entry)) (now (offsets .entry)) (now (widths .entry)) (now (bytes .entry))) a b (now (out .entry)) ⌝ }
 {
-    if !tables::counts_hold(s, starts, bases, offsets, widths, bytes) {
-        return Got::Refused(Refusal::Counts);
-    }
-    if s.length < b {
-        return Got::Refused(Refusal::RangeEnd);
-    }
-    if b < a {
-        return Got::Refused(Refusal::Reversed);
+    if let Checked::Refused(e) = tables::check_range(s, starts, bases, offsets, widths, bytes, a, b) {
+        return Got::Refused(e);
     }
     if (out.len() as u64) < b - a {
         return Got::Refused(Refusal::OutputRoom);
