@@ -1,83 +1,76 @@
+-- The rule's tests in the rule's order; the width or its absence is what width_of told.
+use mathlib.Core.Path.{sym, _∙_}
+use native.Mathlib.Omega.{arith}
+use borrow.Author.Tests.{lt-ltb, le-ltb, le-leb, lt-leb, eq-eqb, ne-eqb}
+use Rattle.rules.specs.Reading.{bisectIn}
+use Rattle.laws.proofs.Counts.{counts-facts}
+use Rattle.laws.proofs.Answers.{width-there, width-absent}
 use borrow.Author.Needs.{needs}
 use Rattle.compact_reader.proofs.bisect_in.Statement.{statement}
 use Rattle.compact_reader.proofs.bisect_in.Tie as tie
-use Rattle.compact_reader.proofs.bisect_in.Reads as reads
-use Rattle.compact_reader.proofs.bisect_in.Lts as lts
-use Rattle.compact_reader.proofs.delta_search.Reads as delta-search-reads
-use Rattle.tables.proofs.entry_or.Reads as entry-or-reads
-use Rattle.tables.proofs.width_of.Reads as width-of-reads
 
--- src/lib.rt:217:17
 mul-start : tie.Need-mul-start
-mul-start c = ?
+mul-start c = omega (arith, counts-facts _ (c .before .before .before .before .before .pre .0))
 
--- src/lib.rt:217:17
 shared-slice-read-start : tie.Need-shared-slice-read-start
-shared-slice-read-start c = ?
+shared-slice-read-start c = omega (arith, counts-facts _ (c .before .before .before .before .before .before .pre .0))
 
--- src/lib.rt:218:16
 mul-base : tie.Need-mul-base
-mul-base c = ?
+mul-base c = omega (arith, counts-facts _ (c .before .before .before .before .before .before .pre .0))
 
--- src/lib.rt:218:16
 shared-slice-read-base : tie.Need-shared-slice-read-base
-shared-slice-read-base c = ?
+shared-slice-read-base c = omega (arith, counts-facts _ (c .before .before .before .before .before .before .before .pre .0))
 
--- src/lib.rt:219:18
 mul-offset : tie.Need-mul-offset
-mul-offset c = ?
+mul-offset c = omega (arith, counts-facts _ (c .before .before .before .before .before .before .before .pre .0))
 
--- src/lib.rt:219:18
 shared-slice-read-offset : tie.Need-shared-slice-read-offset
-shared-slice-read-offset c = ?
+shared-slice-read-offset c = omega (arith, counts-facts _ (c .before .before .before .before .before .before .before .before .pre .0))
 
--- src/lib.rt:221:9
 returns : tie.Need-returns
-returns c = ?
+unfolding bisectIn
+returns c = rw (le-leb _ _ (c .if1 .taken), bisectIn)
 
--- src/lib.rt:224:9
 returns-2 : tie.Need-returns-2
-returns-2 c = ?
+unfolding bisectIn
+returns-2 c = rw (lt-leb _ _ (c .before .if1 .left), eq-eqb _ _ (c .if2 .taken), bisectIn)
 
--- src/lib.rt:227:9
 returns-3 : tie.Need-returns-3
-returns-3 c = ?
+unfolding bisectIn
+returns-3 c = rw (lt-leb _ _ (c .before .before .if1 .left), ne-eqb _ _ (c .before .if2 .left), lt-ltb _ _ (c .if3 .taken), bisectIn)
 
--- src/lib.rt:229:24
 width-of-requires : tie.Need-width-of-requires
-width-of-requires c κs = ?
+width-of-requires c κs = omega (arith, counts-facts _ (c .before .before .before .before .before .before .before .before .before .before .before .before .pre .0))
 
--- src/lib.rt:229:19
 enum-known-w : tie.Need-enum-known-w
 enum-known-w c = search needs
 
--- src/lib.rt:230:27
 enum-told : tie.Need-enum-told
 enum-told c = search needs
 
--- src/lib.rt:230:27
 add-t24 : tie.Need-add-t24
 add-t24 c = search needs
 
--- src/lib.rt:230:9
 returns-4 : tie.Need-returns-4
-returns-4 c = ?
+unfolding bisectIn
+returns-4 c = 
+    let w = width-absent _ _ _ (sym (c .before .before .width-of .ensures) ∙ c .enum-told .given .1) in
+    rw (lt-leb _ _ (c .before .before .before .before .before .if1 .left), ne-eqb _ _ (c .before .before .before .before .if2 .left), le-ltb _ _ (c .before .before .before .if3 .left), w, bisectIn)
 
--- src/lib.rt:232:53
 add-entry-or : tie.Need-add-entry-or
 add-entry-or c = search needs
 
--- src/lib.rt:232:9
 entry-or-requires : tie.Need-entry-or-requires
-entry-or-requires c κs = ?
+entry-or-requires c κs = omega (arith, counts-facts _ (c .before .before .before .before .before .before .before .before .before .before .before .before .before .before .before .before .pre .0))
 
--- src/lib.rt:233:5
 delta-search-requires : tie.Need-delta-search-requires
-delta-search-requires c κs = ?
+delta-search-requires c κs = omega (arith, counts-facts _ (c .before .before .before .before .before .before .before .before .before .before .before .before .before .before .before .before .before .pre .0))
 
--- src/lib.rt:204:1
 returns-5 : tie.Need-returns-5
-returns-5 c = ?
+unfolding bisectIn
+returns-5 c = 
+    let w = width-there _ _ _ _ (sym (c .before .before .before .before .before .width-of .ensures) ∙ c .before .before .before .w .given .1) in
+    c .delta-search .ensures ∙ rw (lt-leb _ _ (c .before .before .before .before .before .before .before .before .if1 .left), ne-eqb _ _ (c .before .before .before .before .before .before .before .if2 .left), le-ltb _ _ (c .before .before .before .before .before .before .if3 .left), w .0, w .1, c .before .entry-or .ensures, bisectIn)
 
 pub bisect-in-spec : {M : Type 1} → statement M
 bisect-in-spec =

@@ -1,43 +1,44 @@
+-- The rule's tests in the rule's order, each decided by its branch; halving never finds more than there are.
+use mathlib.Core.Path.{sym, _∙_}
+use native.Mathlib.Omega.{arith}
+use denote.Ref.{now}
+use borrow.Author.Tests.{eq-eqb, ne-eqb, not-true, not-false}
+use Rattle.rules.specs.Reading.{atMost, basesUpTo, bisectRule}
+use Rattle.laws.proofs.Halving.{halving-edge}
+use Rattle.laws.proofs.Counts.{counts-facts}
 use borrow.Author.Needs.{needs}
 use Rattle.compact_reader.proofs.bisect_left.Statement.{statement}
 use Rattle.compact_reader.proofs.bisect_left.Tie as tie
-use Rattle.compact_reader.proofs.bisect_left.Reads as reads
-use Rattle.compact_reader.proofs.bisect_left.Lts as lts
-use Rattle.compact_reader.proofs.bisect_in.Reads as bisect-in-reads
-use Rattle.index_stream.proofs.bisect_right.Reads as bisect-right-reads
-use Rattle.tables.proofs.counts_hold.Reads as counts-hold-reads
 
--- src/lib.rt:190:9
 counts-hold-requires : tie.Need-counts-hold-requires
 counts-hold-requires c κs = search needs
 
--- src/lib.rt:191:9
 returns : tie.Need-returns
-returns c = ?
+unfolding bisectRule
+returns c = rw (sym (c .before .counts-hold .ensures) ∙ not-true _ (c .if1 .taken), bisectRule)
 
--- src/lib.rt:194:9
 returns-2 : tie.Need-returns-2
-returns-2 c = ?
+unfolding bisectRule
+returns-2 c = rw (sym (c .before .before .before .counts-hold .ensures) ∙ not-false _ (c .before .before .if1 .left), eq-eqb _ _ (c .if2 .taken), bisectRule)
 
--- src/lib.rt:196:9
 bisect-right-requires : tie.Need-bisect-right-requires
-bisect-right-requires c κs = ?
+bisect-right-requires c κs = omega (arith, counts-facts _ (sym (c .before .before .before .counts-hold .ensures) ∙ not-false _ (c .before .before .if1 .left)))
 
--- src/lib.rt:198:9
 returns-3 : tie.Need-returns-3
-returns-3 c = ?
+unfolding bisectRule basesUpTo
+returns-3 c = rw (sym (c .before .before .before .before .before .counts-hold .ensures) ∙ not-false _ (c .before .before .before .before .if1 .left), ne-eqb _ _ (c .before .before .if2 .left), sym (c .before .bisect-right .ensures) ∙ c .if3 .taken, bisectRule)
 
--- src/lib.rt:200:57
 sub-bisect-in : tie.Need-sub-bisect-in
 sub-bisect-in c = search needs
 
--- src/lib.rt:200:5
 bisect-in-requires : tie.Need-bisect-in-requires
-bisect-in-requires c κs = ?
+bisect-in-requires c κs = 
+    let a = c .before .before .before .before .before .before .before .before .before .before .before .args in
+    (sym (c .before .before .before .before .before .counts-hold .ensures) ∙ not-false _ (c .before .before .before .before .if1 .left), omega (arith, c .before .bisect-right .ensures, halving-edge (atMost (now (a .bases)) (a .v)) (a .s .segments) .to))
 
--- src/lib.rt:179:1
 returns-4 : tie.Need-returns-4
-returns-4 c = ?
+unfolding bisectRule basesUpTo
+returns-4 c = c .bisect-in .ensures ∙ rw (sym (c .before .before .before .before .before .before .counts-hold .ensures) ∙ not-false _ (c .before .before .before .before .before .if1 .left), ne-eqb _ _ (c .before .before .before .if2 .left), sym (c .before .before .bisect-right .ensures), ne-eqb _ _ (c .before .if3 .left), bisectRule)
 
 pub bisect-left-spec : {M : Type 1} → statement M
 bisect-left-spec =

@@ -1,57 +1,61 @@
+-- Every early return refutes one test of the list; that many whole deltas end within used.
+use mathlib.Core.Path.{sym}
+use native.Mathlib.Omega.{arith}
+use native.Mathlib.Nat.{div-mul-le-self}
+use Prim.Native.Nat.{_-_, _/_}
+use denote.Ref.{now}
+use Rattle.rules.specs.Reading.{deltaBelow, deltaSearch}
+use Rattle.laws.proofs.Tests.{taken, left}
+use Rattle.laws.proofs.Halving.{halving-edge}
 use borrow.Author.Needs.{needs}
 use Rattle.compact_reader.proofs.delta_search.Statement.{statement}
 use Rattle.compact_reader.proofs.delta_search.Tie as tie
-use Rattle.compact_reader.proofs.delta_search.Reads as reads
-use Rattle.compact_reader.proofs.delta_search.Lts as lts
-use Rattle.delta.proofs.count_below.Reads as count-below-reads
 
--- src/lib.rt:243:9
 returns : tie.Need-returns
-returns c = ?
+unfolding deltaSearch
+returns c = sym (left _ _ _ (λ f. omega arith))
 
--- src/lib.rt:246:9
 returns-2 : tie.Need-returns-2
-returns-2 c = ?
+unfolding deltaSearch
+returns-2 c = sym (left _ _ _ (λ f. omega arith))
 
--- src/lib.rt:249:9
 returns-3 : tie.Need-returns-3
-returns-3 c = ?
+unfolding deltaSearch
+returns-3 c = sym (left _ _ _ (λ f. omega arith))
 
--- src/lib.rt:252:9
 returns-4 : tie.Need-returns-4
-returns-4 c = ?
+unfolding deltaSearch
+returns-4 c = sym (left _ _ _ (λ f. omega arith))
 
--- src/lib.rt:254:13
 div-n : tie.Need-div-n
 div-n c = search needs
 
--- src/lib.rt:255:8
 sub-if5 : tie.Need-sub-if5
 sub-if5 c = search needs
 
--- src/lib.rt:255:8
 sub-if5-2 : tie.Need-sub-if5-2
 sub-if5-2 c = search needs
 
--- src/lib.rt:256:9
 returns-5 : tie.Need-returns-5
-returns-5 c = ?
+unfolding deltaSearch
+returns-5 c = sym (left _ _ _ (λ f. omega arith))
 
--- src/lib.rt:258:9
 count-below-requires : tie.Need-count-below-requires
-count-below-requires c κs = ?
+count-below-requires c κs = 
+    let a = c .before .before .before .before .before .before .before .before .before .args in
+    omega (arith, div-mul-le-self (a .end - a .offset) (a .w))
 
--- src/lib.rt:259:16
 add-t16 : tie.Need-add-t16
 add-t16 c = search needs
 
--- src/lib.rt:259:16
 add-t17 : tie.Need-add-t17
-add-t17 c = ?
+add-t17 c = 
+    let a = c .before .before .before .before .before .before .before .before .before .before .args in
+    omega (arith, halving-edge (deltaBelow (now (a .bytes)) (a .offset) (a .w) (a .gap)) ((a .end - a .offset) / a .w) .to)
 
--- src/lib.rt:237:1
 returns-6 : tie.Need-returns-6
-returns-6 c = ?
+unfolding deltaSearch
+returns-6 c = rw (c .count-below .ensures) (sym (taken _ _ _ (omega arith)))
 
 pub delta-search-spec : {M : Type 1} → statement M
 delta-search-spec =

@@ -3,8 +3,7 @@ use mathlib.Core.Path.{sym, _∙_}
 use native.Mathlib.Omega.{arith}
 use denote.Ref.{now}
 use borrow.Author.Tests.{lt-ltb, le-ltb, ne-eqb, not-true, not-false}
-use Rattle.rules.specs.Reading.{atMost}
-use Rattle.rules.specs.Reading.{startsUpTo, getRule}
+use Rattle.rules.specs.Reading.{atMost, startsUpTo, getRule}
 use Rattle.laws.proofs.Halving.{halving-edge}
 use Rattle.laws.proofs.Counts.{counts-facts}
 use borrow.Author.Needs.{needs}

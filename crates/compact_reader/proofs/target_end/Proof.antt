@@ -1,46 +1,52 @@
+-- Both early returns are the rule's one test; then the rule takes the next value as the code does.
+use mathlib.Core.Path.{sym, ap, _∙_}
+use native.Mathlib.Omega.{arith}
+use Prim.Native.Nat.{_+_}
+use borrow.Author.Tests.{lt-ltb, le-ltb}
+use Rattle.rules.specs.Reading.{targetEnd}
+use Rattle.rules.specs.Refusals.{answerOf}
 use borrow.Author.Needs.{needs}
 use Rattle.compact_reader.proofs.target_end.Statement.{statement}
 use Rattle.compact_reader.proofs.target_end.Tie as tie
-use Rattle.compact_reader.proofs.target_end.Reads as reads
-use Rattle.compact_reader.proofs.target_end.Lts as lts
-use Rattle.compact_reader.proofs.get.Reads as get-reads
-use Rattle.index_stream.proofs.least.Reads as least-reads
 
--- src/lib.rt:167:9
 returns : tie.Need-returns
-returns c = ?
+unfolding targetEnd
+returns c = 
+    let a = c .before .before .before .before .before .before .args in
+    rw (lt-ltb (a .s .length) (a .p + 2) (omega arith), targetEnd)
 
--- src/lib.rt:170:9
 returns-2 : tie.Need-returns-2
-returns-2 c = ?
+unfolding targetEnd
+returns-2 c = 
+    let a = c .before .before .before .before .before .before .before .args in
+    rw (lt-ltb (a .s .length) (a .p + 2) (omega arith), targetEnd)
 
--- src/lib.rt:172:57
 add-get : tie.Need-add-get
 add-get c = search needs
 
--- src/lib.rt:172:11
 get-requires : tie.Need-get-requires
 get-requires c κs = search needs
 
--- src/lib.rt:173:20
 enum-known-next : tie.Need-enum-known-next
 enum-known-next c = search needs
 
--- src/lib.rt:173:40
 least-requires : tie.Need-least-requires
 least-requires c κs = search needs
 
--- src/lib.rt:174:22
 enum-known-e : tie.Need-enum-known-e
 enum-known-e c = search needs
 
--- src/lib.rt:153:1
 returns-3 : tie.Need-returns-3
-returns-3 c = ?
+unfolding targetEnd
+returns-3 c = 
+    let a = c .before .before .before .before .before .before .before .before .before .before .before .before .args in
+    rw (le-ltb (a .s .length) (a .p + 2) (omega arith), sym (c .before .before .before .before .get .ensures) ∙ ap answerOf (c .before .before .next .given .1), c .least .ensures, targetEnd)
 
--- src/lib.rt:153:1
 returns-4 : tie.Need-returns-4
-returns-4 c = ?
+unfolding targetEnd
+returns-4 c = 
+    let a = c .before .before .before .before .before .before .before .before .before .before .before .args in
+    rw (le-ltb (a .s .length) (a .p + 2) (omega arith), sym (c .before .before .before .get .ensures) ∙ ap answerOf (c .before .e .given .1), targetEnd)
 
 pub target-end-spec : {M : Type 1} → statement M
 target-end-spec =
