@@ -1,14 +1,25 @@
--- The values of a range: which reads give one, and how they go into the output one after another.
+-- The values of a range: which segment a position is in, which reads give a value, and how they go into the output one after another.
 use Prim.Native.Nat.{ℕ, zero, suc, _+_, _*_, _^_, _≤_, _<_}
 use mathlib.Core.Bool.{Bool, true, false}
 use mathlib.Core.List.{List}
 use mathlib.Core.Path.{_≡_}
 use lib.Dec.{eqb}
-use lib.ListN.{set}
+use lib.ListN.{getD, set}
 use Rattle.rules.specs.Words.{when, Answer, value, refused}
 use Rattle.rules.specs.Record.{Index}
 use Rattle.rules.specs.Push.{deltaAt}
-use Rattle.rules.specs.Reading.{readIn, getRule}
+use Rattle.rules.specs.Reading.{halving, atMost, readIn, getRule}
+use Rattle.index_stream.specs.declared.Found.{Found}
+
+-- the first n starts never fall
+abbrev pub Rises : List ℕ → ℕ → Type 0
+Rises starts n = (i j : ℕ) → i ≤ j → j < n → getD starts i 0 ≤ getD starts j 0
+
+-- the number is what halving over the first n starts finds, for p and for every position up to `until`, which is at most the limit
+pub record Finds (starts : List ℕ) (n p limit : ℕ) (r : Found) : Type 0 where
+  pub after : p < r .until
+  pub within : r .until ≤ limit
+  pub stays : (u : ℕ) → p ≤ u → u < r .until → r .number ≡ halving (atMost starts u) n .number
 
 -- an answer that is a value
 abbrev pub isValue : {A : Type 0} → Answer A → Bool

@@ -1,4 +1,5 @@
 // get_range on any tables: one search a segment, the whole range decided before its first value is written.
+use index_stream::Found;
 use rules::Got;
 use rules::Refusal;
 use rules::State;
@@ -13,7 +14,7 @@ ghost use Rattle.rules.specs.Record.{index};
 ghost use Rattle.rules.specs.Reading.{reads, ranged, rangeRule};
 ghost use Rattle.rules.specs.Refusals.{answerOf};
 ghost use Rattle.laws.specs.Orders.{ordersOf};
-ghost use Rattle.compact_range.specs.Values.{isValue, ValuesIn, Sure, sums, Fits, inSegment, gets, puts, Based};
+ghost use Rattle.compact_range.specs.Values.{Rises, Finds, isValue, ValuesIn, Sure, sums, Fits, inSegment, gets, puts, Based};
 
 // Puts the values at a..b into the output from its first entry on and answers how many; if any of them is damaged, none is written.
 pub fn get_range(
@@ -35,11 +36,46 @@ pub fn get_range(
     if (out.len() as u64) < b - a {
         return Got::Refused(Refusal::OutputRoom);
     }
-    if !range_reads(s, starts, bases, offsets, widths, bytes, a, b) {
+    let rising = rises(starts, s.segments, b - a);
+    if !range_reads(s, starts, bases, offsets, widths, bytes, rising, a, b) {
         return Got::Refused(Refusal::Damaged);
     }
-    range_write(s, starts, bases, offsets, widths, bytes, a, b, out);
+    range_write(s, starts, bases, offsets, widths, bytes, rising, a, b, out);
     Got::Value(b - a)
+}
+
+// Whether the n starts never fall, so that segments follow one another; a range of fewer positions than that does not ask and takes no for it.
+fn rises(starts: &[u64], n: u64, positions: u64) -> bool
+    requires { ⌜ n ≤ length (now starts) ⌝ }
+    ensures { λ r. ⌜ (r ≡ true → Rises (now (starts .entry)) n) ⌝ }
+{
+    if positions < n {
+        return false;
+    }
+    let mut i: u64 = 1;
+    loop {
+        if n <= i {
+            break true;
+        }
+        if starts[i as usize] < starts[(i - 1) as usize] {
+            break false;
+        }
+        i += 1;
+    }
+}
+
+// What the search for p finds and up to where: where the starts rise, segment k without a search if it holds p.
+fn find(starts: &[u64], n: u64, rising: bool, k: u64, p: u64, limit: u64) -> Found
+    requires { ⌜ (n ≤ length (now starts)) × (p < limit) × (rising ≡ true → Rises (now starts) n) ⌝ }
+    ensures { λ r. ⌜ Finds (now (starts .entry)) n p limit r ⌝ }
+{
+    if rising & (k < n) {
+        let next = tables::entry_or(starts, n, k + 1, limit);
+        if (starts[k as usize] <= p) & (p < next) {
+            return Found { number: k + 1, until: index_stream::least(next, limit) };
+        }
+    }
+    index_stream::bisect_right_until(starts, n, p, limit)
 }
 
 // Whether each position of a..b gives a value.
@@ -50,20 +86,22 @@ fn range_reads(
     offsets: &[u64],
     widths: &[u8],
     bytes: &[u8],
+    rising: bool,
     a: u64,
     b: u64,
 ) -> bool
-    requires { ⌜ Facts (ordersOf (index s (now starts) (now bases) (now offsets) (now widths) (now bytes))) × (a ≤ b) × (b ≤ s .length) ⌝ }
+    requires { ⌜ Facts (ordersOf (index s (now starts) (now bases) (now offsets) (now widths) (now bytes))) × (rising ≡ true → Rises (now starts) (s .segments)) × (a ≤ b) × (b ≤ s .length) ⌝ }
     ensures { λ r. ⌜ r ≡ isValue (reads (index s (now (starts .entry)) (now (bases .entry)) (now (offsets .entry)) (now (widths .entry)) (now (bytes .entry))) a (b - a)) ⌝ }
 {
     let segments = s.segments;
     let mut p = a;
+    let mut number: u64 = 0;
     'segments: loop {
         if b <= p {
             break 'segments true;
         }
-        let found = index_stream::bisect_right_until(starts, segments, p, b);
-        let number = found.number;
+        let found = find(starts, segments, rising, number, p, b);
+        number = found.number;
         let until = found.until;
         if number == 0 {
             break 'segments false;
@@ -133,23 +171,25 @@ fn range_write(
     offsets: &[u64],
     widths: &[u8],
     bytes: &[u8],
+    rising: bool,
     a: u64,
     b: u64,
     out: &mut [u64],
 )
-    requires { ⌜ Facts (ordersOf (index s (now starts) (now bases) (now offsets) (now widths) (now bytes))) × (a ≤ b) × (b ≤ s .length) × (b - a ≤ length (now out)) × (isValue (reads (index s (now starts) (now bases) (now offsets) (now widths) (now bytes)) a (b - a)) ≡ true) ⌝ }
+    requires { ⌜ Facts (ordersOf (index s (now starts) (now bases) (now offsets) (now widths) (now bytes))) × (rising ≡ true → Rises (now starts) (s .segments)) × (a ≤ b) × (b ≤ s .length) × (b - a ≤ length (now out)) × (isValue (reads (index s (now starts) (now bases) (now offsets) (now widths) (now bytes)) a (b - a)) ≡ true) ⌝ }
     ensures { λ _. ⌜ now (out .exit) ≡ puts (gets (index s (now (starts .entry)) (now (bases .entry)) (now (offsets .entry)) (now (widths .entry)) (now (bytes .entry))) a) 0 (b - a) (now (out .entry)) ⌝ }
 {
     let segments = s.segments;
     let mut p = a;
+    let mut number: u64 = 0;
     'segments: loop {
         if b <= p {
             break 'segments;
         }
-        let found = index_stream::bisect_right_until(starts, segments, p, b);
-        let k = found.number - 1;
+        let found = find(starts, segments, rising, number, p, b);
+        number = found.number;
         let until = found.until;
-        fill_segment(s, starts, bases, offsets, widths, bytes, k, p, until, out, p - a);
+        fill_segment(s, starts, bases, offsets, widths, bytes, number - 1, p, until, out, p - a);
         p = until;
     }
 }

@@ -41,22 +41,29 @@ sub-if1 c = omega (arith, ok c .2)
 returns-2 : tie.Need-returns-2
 returns-2 c = range-room _ _ _ _ (ok (c .before)) (c .if1 .taken)
 
+sub-rises : tie.Need-sub-rises
+sub-rises c = omega (arith, ok (c .before) .2)
+
+rises-requires : tie.Need-rises-requires
+rises-requires c κs = omega (arith, counts-facts _ (ok (c .before) .0))
+
 range-reads-requires : tie.Need-range-reads-requires
-range-reads-requires c κs = let o = ok (c .before) in (counts-facts _ (o .0), o .2, o .1)
+range-reads-requires c κs = let o = ok (c .before .before) in (counts-facts _ (o .0), c .rises .ensures, o .2, o .1)
 
 returns-3 : tie.Need-returns-3
 returns-3 c =
-    let e = c .before .before in
+    let e = c .before .before .before in
     range-damaged _ _ _ _ (ok (e .before)) (e .if1 .left) (sym (c .before .range-reads .ensures) ∙ not-true _ (c .if2 .taken))
 
 range-write-requires : tie.Need-range-write-requires
 range-write-requires c κs =
-    let e = c .before .before .before in
+    let r = c .before .before .before in
+    let e = r .before in
     let o = ok (e .before) in
-    (counts-facts _ (o .0), o .2, o .1, e .if1 .left, sym (c .before .before .range-reads .ensures) ∙ not-false _ (c .before .if2 .left))
+    (counts-facts _ (o .0), r .rises .ensures, o .2, o .1, e .if1 .left, sym (c .before .before .range-reads .ensures) ∙ not-false _ (c .before .if2 .left))
 
-sub-t13 : tie.Need-sub-t13
-sub-t13 c = omega (arith, ok (c .before .before .before .before .before .before .before) .2)
+sub-t15 : tie.Need-sub-t15
+sub-t15 c = omega (arith, ok (c .before .before .before .before .before .before .before .before) .2)
 
 same-length : tie.Need-same-length
 same-length c = search needs
@@ -64,7 +71,7 @@ same-length c = search needs
 returns-4 : tie.Need-returns-4
 returns-4 c =
     let f = c .before .before .before .before in
-    let e = f .before .before in
+    let e = f .before .before .before in
     range-values _ _ _ _ (ok (e .before)) (e .if1 .left) (sym (f .before .range-reads .ensures) ∙ not-false _ (f .if2 .left)) _ (c .before .before .range-write .ensures)
 
 pub get-range-spec : {M : Type 1} → statement M
@@ -77,9 +84,11 @@ get-range-spec =
     enum-told
     sub-if1
     returns-2
+    sub-rises
+    rises-requires
     range-reads-requires
     returns-3
     range-write-requires
-    sub-t13
+    sub-t15
     same-length
     returns-4)

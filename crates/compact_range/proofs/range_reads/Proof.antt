@@ -19,18 +19,18 @@ use Rattle.compact_range.proofs.range_reads.Statement.{statement}
 use Rattle.compact_range.proofs.range_reads.Tie as tie
 
 abbrev Inv-deltas : tie.InvT-deltas
-Inv-deltas s starts bases offsets widths bytes a b segments p₀ number until k p =
+Inv-deltas s starts bases offsets widths bytes rising a b segments p₀ number until k p =
     (p ≤ until) × (p₀ ≤ p) × Values (index s starts bases offsets widths bytes) a p
 
 abbrev μ-deltas : tie.MeasureT-deltas
-μ-deltas s starts bases offsets widths bytes a b segments p₀ number until k p = until - p
+μ-deltas s starts bases offsets widths bytes rising a b segments p₀ number until k p = until - p
 
 abbrev Inv-segments : tie.InvT-segments
-Inv-segments s starts bases offsets widths bytes a b segments p₀ p =
+Inv-segments s starts bases offsets widths bytes rising a b segments p₀ number₀ p number =
     (a ≤ p) × (p ≤ b) × Values (index s starts bases offsets widths bytes) a p
 
 abbrev μ-segments : tie.MeasureT-segments
-μ-segments s starts bases offsets widths bytes a b segments p₀ p = b - p
+μ-segments s starts bases offsets widths bytes rising a b segments p₀ number₀ p number = b - p
 
 segments-holds : tie.Need-segments-holds Inv-deltas μ-deltas Inv-segments μ-segments
 segments-holds c = (omega arith, omega arith, λ q l h. absurd (omega arith))
@@ -50,42 +50,42 @@ counts c = start c .pre .0
 
 -- past the search: its segment
 segment : (c : tie.Else2 Inv-deltas μ-deltas Inv-segments μ-segments)
-    → let d = c .before .before .before in let a = start d .args in let s = c .before .bisect-right-until .result .number - 1 in
+    → let d = c .before .before .before in let a = start d .args in let s = c .before .find .result .number - 1 in
     (s < a .s .segments) × (getD (now (a .starts)) s 0 ≤ d .segments .p)
 segment c =
     let d = c .before .before .before in
     let a = start d .args in
-    let f = c .before .bisect-right-until .ensures in
+    let f = c .before .find .ensures in
     found-in (now (a .starts)) (a .s .segments) (d .segments .p) _ (f .stays (d .segments .p) (omega arith) (f .after)) (c .if2 .left)
 
-bisect-right-until-requires :
-    tie.Need-bisect-right-until-requires Inv-deltas μ-deltas Inv-segments μ-segments
-bisect-right-until-requires c κs = omega arith
+find-requires :
+    tie.Need-find-requires Inv-deltas μ-deltas Inv-segments μ-segments
+find-requires c κs = (omega arith, omega arith, start (c .before) .pre .1)
 
 sub-k : tie.Need-sub-k Inv-deltas μ-deltas Inv-segments μ-segments
 sub-k c = omega (arith, c .if2 .left)
 
 sure-until-requires : tie.Need-sure-until-requires Inv-deltas μ-deltas Inv-segments μ-segments
-sure-until-requires c κs = let f = c .before .bisect-right-until .ensures in let s = segment c in (counts (c .before .before .before), s .0, s .1, f .after)
+sure-until-requires c κs = let f = c .before .find .ensures in let s = segment c in (counts (c .before .before .before), s .0, s .1, f .after)
 
 deltas-holds : tie.Need-deltas-holds Inv-deltas μ-deltas Inv-segments μ-segments
 deltas-holds c =
     let e = c .before in
     let d = e .before .before .before in
-    let f = e .before .bisect-right-until .ensures in
+    let f = e .before .find .ensures in
     let g = c .sure-until .ensures in
     let w = f .within in
     (g .to, omega arith, values-on (X d) _ (d .segments .p) _ (counts d) (omega arith) (e .if2 .left) (f .stays) (start d .args .a) _ g (d .segments .inv .2))
 
 segments-less : tie.Need-segments-less Inv-deltas μ-deltas Inv-segments μ-segments
 segments-less c =
-    let f = c .before .before .before .before .bisect-right-until .ensures in
+    let f = c .before .before .before .before .find .ensures in
     let v = f .after in let t = c .deltas-test .taken in
     omega arith
 
 segments-again : tie.Need-segments-again Inv-deltas μ-deltas Inv-segments μ-segments
 segments-again c =
-    let f = c .before .before .before .before .bisect-right-until .ensures in
+    let f = c .before .before .before .before .find .ensures in
     let v = f .after in let w = f .within in let t = c .deltas-test .taken in
     (omega arith, omega arith, c .before .deltas .inv .2)
 
@@ -99,7 +99,7 @@ seen c = c .before .before .before .before .before .before .before
 read-as : (c : tie.After-read-in Inv-deltas μ-deltas Inv-segments μ-segments) → isValue (getRule (X (seen c)) (c .before .before .deltas .p)) ≡ isValue (answerOf (c .read-in .result))
 read-as c =
     let d = seen c in
-    let f = c .before .before .before .before .before .bisect-right-until .ensures in
+    let f = c .before .before .before .before .before .find .ensures in
     let w = f .within in
     let i = c .before .before .deltas .inv in
     let h = c .before .before .before .sure-until .ensures .from in
@@ -136,7 +136,7 @@ returns c =
 returns-2 : tie.Need-returns-2 Inv-deltas μ-deltas Inv-segments μ-segments
 returns-2 c =
     let d = c .before .before .before in
-    let f = c .before .bisect-right-until .ensures in
+    let f = c .before .find .ensures in
     let g = get-none (X d) _ (d .segments .p) (counts d) (omega arith) (f .stays (d .segments .p) (omega arith) (f .after)) (c .if2 .taken) in
     sym (reads-bad (X d) (start d .args .b - start d .args .a) (start d .args .a) (d .segments .p) (omega arith) (omega arith) (ap isValue g))
 
@@ -145,7 +145,7 @@ returns-3 c =
     let r = c .before .before in
     let d = seen r in
     let i = r .before .before .deltas .inv in
-    let f = r .before .before .before .before .before .bisect-right-until .ensures in
+    let f = r .before .before .before .before .before .find .ensures in
     let w = f .within in
     let h = r .before .before .before .sure-until .ensures .from in
     sym (reads-bad (X d) (start d .args .b - start d .args .a) (start d .args .a) (r .before .before .deltas .p) (omega arith) (omega arith)
@@ -160,7 +160,7 @@ range-reads-spec =
     Inv-segments
     μ-segments
     segments-holds
-    bisect-right-until-requires
+    find-requires
     sub-k
     sure-until-requires
     deltas-holds

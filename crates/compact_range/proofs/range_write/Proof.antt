@@ -14,20 +14,17 @@ use Rattle.compact_range.proofs.range_write.Statement.{statement}
 use Rattle.compact_range.proofs.range_write.Tie as tie
 
 abbrev Inv-segments : tie.InvT-segments
-Inv-segments s starts bases offsets widths bytes a b out₀ segments p₀ out p =
+Inv-segments s starts bases offsets widths bytes rising a b out₀ segments p₀ number₀ out p number =
     (a ≤ p) × (p ≤ b) × (out ≡ puts (gets (index s starts bases offsets widths bytes) a) 0 (p - a) out₀) × (length out ≡ length out₀)
 
 abbrev μ-segments : tie.MeasureT-segments
-μ-segments s starts bases offsets widths bytes a b out₀ segments p₀ out p = b - p
+μ-segments s starts bases offsets widths bytes rising a b out₀ segments p₀ number₀ out p number = b - p
 
 segments-holds : tie.Need-segments-holds Inv-segments μ-segments
 segments-holds c =
     let a = c .before .before .before .before .before .before .args in
     let e : a .a - a .a ≡ 0 = omega arith in
     (omega arith, omega arith, rw e (puts-none _ _ _), refl)
-
-bisect-right-until-requires : tie.Need-bisect-right-until-requires Inv-segments μ-segments
-bisect-right-until-requires c κs = omega arith
 
 abbrev At : Type 0
 At = tie.At-segments Inv-segments μ-segments
@@ -43,44 +40,46 @@ counts c = start c .pre .0
 
 -- each position of the range gives a value
 good : (c : At) → Values (X c) (start c .args .a) (start c .args .b)
-good c q l h = let s = start c in reads-at (X c) (s .args .b - s .args .a) (s .args .a) (s .pre .4) q l (omega arith)
+good c q l h = let s = start c in reads-at (X c) (s .args .b - s .args .a) (s .args .a) (s .pre .5) q l (omega arith)
+
+find-requires : tie.Need-find-requires Inv-segments μ-segments
+find-requires c κs = (omega arith, omega arith, start (c .before) .pre .1)
 
 -- past the search
-
-abbrev at : tie.After-bisect-right-until Inv-segments μ-segments → At
+abbrev at : tie.After-find Inv-segments μ-segments → At
 at c = c .before .before
 
-some : (c : tie.After-bisect-right-until Inv-segments μ-segments) → c .bisect-right-until .result .number ≡ 0 → ⊥
+some : (c : tie.After-find Inv-segments μ-segments) → c .find .result .number ≡ 0 → ⊥
 some c =
     let d = at c in
-    let f = c .bisect-right-until .ensures in
+    let f = c .find .ensures in
     let t = c .before .segments-test .left in
     found-some (X d) _ (d .segments .p) (counts d) (omega arith) (f .stays (d .segments .p) (omega arith) (f .after)) (good d (d .segments .p) (omega arith) (omega arith))
 
-segment : (c : tie.After-bisect-right-until Inv-segments μ-segments) → let d = at c in let a = start d .args in let s = c .bisect-right-until .result .number - 1 in
+segment : (c : tie.After-find Inv-segments μ-segments) → let d = at c in let a = start d .args in let s = c .find .result .number - 1 in
     (s < a .s .segments) × (getD (now (a .starts)) s 0 ≤ d .segments .p)
 segment c =
     let d = at c in
     let a = start d .args in
-    let f = c .bisect-right-until .ensures in
+    let f = c .find .ensures in
     found-in (now (a .starts)) (a .s .segments) (d .segments .p) _ (f .stays (d .segments .p) (omega arith) (f .after)) (some c)
 
-sub-k : tie.Need-sub-k Inv-segments μ-segments
-sub-k c = omega (arith, some (c .before))
-
 sub-fill-segment : tie.Need-sub-fill-segment Inv-segments μ-segments
-sub-fill-segment c = omega arith
+sub-fill-segment c = omega (arith, some c)
+
+sub-fill-segment-2 : tie.Need-sub-fill-segment-2 Inv-segments μ-segments
+sub-fill-segment-2 c = omega arith
 
 fill-segment-requires : tie.Need-fill-segment-requires Inv-segments μ-segments
 fill-segment-requires c κs =
-    let k = c .before .before in
+    let k = c .before in
     let d = at k in
-    let f = k .bisect-right-until .ensures in
+    let f = k .find .ensures in
     let w = f .within in let v = f .after in
     let s = segment k in
     let i = d .segments .inv in
-    let r = start d .pre .3 in
-    let n = start d .pre .2 in (
+    let r = start d .pre .4 in
+    let n = start d .pre .3 in (
       counts d,
       s .0,
       s .1,
@@ -91,19 +90,19 @@ fill-segment-requires c κs =
 
 segments-less : tie.Need-segments-less Inv-segments μ-segments
 segments-less c =
-    let f = c .before .before .before .before .before .bisect-right-until .ensures in
-    let v = f .after in let t = c .before .before .before .before .before .before .segments-test .left in
+    let f = c .before .before .before .before .find .ensures in
+    let v = f .after in let t = c .before .before .before .before .before .segments-test .left in
     omega arith
 
 segments-again : tie.Need-segments-again Inv-segments μ-segments
 segments-again c =
-    let k = c .before .before .before .before .before in
+    let k = c .before .before .before .before in
     let d = at k in
     let a = start d .args in
-    let f = k .bisect-right-until .ensures in
+    let f = k .find .ensures in
     let v = f .after in let w = f .within in
     let i = d .segments .inv in
-    let n = start d .pre .2 in
+    let n = start d .pre .3 in
     let g = c .before .before .fill-segment .ensures in (
       omega arith,
       w,
@@ -129,9 +128,9 @@ range-write-spec =
     Inv-segments
     μ-segments
     segments-holds
-    bisect-right-until-requires
-    sub-k
+    find-requires
     sub-fill-segment
+    sub-fill-segment-2
     fill-segment-requires
     segments-less
     segments-again
