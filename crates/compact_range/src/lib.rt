@@ -30,7 +30,16 @@ pub fn get_range(
 ) -> Got
     ensures { λ r. ⌜ ranged (answerOf r) (now (out .exit)) ≡ rangeRule (index s (now (starts .entry)) (now (bases .entry)) (now (offsets .entry)) (now (widths .entry)) (now (bytes .entry))) a b (now (out .entry)) ⌝ }
 {
-    if let Checked::Refused(e) = tables::check_range(s, starts, bases, offsets, widths, bytes, a, b) {
+    if let Checked::Refused(e) = tables::check_range(
+        s,
+        starts,
+        bases,
+        offsets,
+        widths,
+        bytes,
+        a,
+        b,
+    ) {
         return Got::Refused(e);
     }
     if (out.len() as u64) < b - a {
@@ -72,7 +81,10 @@ fn find(starts: &[u64], n: u64, rising: bool, k: u64, p: u64, limit: u64) -> Fou
     if rising & (k < n) {
         let next = tables::entry_or(starts, n, k + 1, limit);
         if (starts[k as usize] <= p) & (p < next) {
-            return Found { number: k + 1, until: index_stream::least(next, limit) };
+            return Found {
+                number: k + 1,
+                until: index_stream::least(next, limit),
+            };
         }
     }
     index_stream::bisect_right_until(starts, n, p, limit)
@@ -112,8 +124,16 @@ fn range_reads(
             if until <= p {
                 break 'deltas;
             }
-            let Got::Value(_) = compact_reader::read_in(s, starts, bases, offsets, widths, bytes, k, p)
-            else {
+            let Got::Value(_) = compact_reader::read_in(
+                s,
+                starts,
+                bases,
+                offsets,
+                widths,
+                bytes,
+                k,
+                p,
+            ) else {
                 break 'segments false;
             };
             p += 1;
@@ -189,7 +209,19 @@ fn range_write(
         let found = find(starts, segments, rising, number, p, b);
         number = found.number;
         let until = found.until;
-        fill_segment(s, starts, bases, offsets, widths, bytes, number - 1, p, until, out, p - a);
+        fill_segment(
+            s,
+            starts,
+            bases,
+            offsets,
+            widths,
+            bytes,
+            number - 1,
+            p,
+            until,
+            out,
+            p - a,
+        );
         p = until;
     }
 }

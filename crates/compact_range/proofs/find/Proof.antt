@@ -12,11 +12,6 @@ use Rattle.compact_range.proofs.Rising.{rises-finds, below-next}
 use borrow.Author.Needs.{needs}
 use Rattle.compact_range.proofs.find.Statement.{statement}
 use Rattle.compact_range.proofs.find.Tie as tie
-use Rattle.compact_range.proofs.find.Reads as reads
-use Rattle.compact_range.proofs.find.Lts as lts
-use Rattle.index_stream.proofs.bisect_right_until.Reads as bisect-right-until-reads
-use Rattle.index_stream.proofs.least.Reads as least-reads
-use Rattle.tables.proofs.entry_or.Reads as entry-or-reads
 
 -- the starts rise, and segment k is there
 walks : (c : tie.Then1) → let a = c .before .before .args in Rises (now (a .starts)) (a .n) × (a .k < a .n)
@@ -28,27 +23,21 @@ walks c =
 add-entry-or : tie.Need-add-entry-or
 add-entry-or c = omega (arith, walks c .1)
 
--- src/lib.rt:73:13
 entry-or-requires : tie.Need-entry-or-requires
 entry-or-requires c κs = search needs
 
--- src/lib.rt:74:13
 mul-if2 : tie.Need-mul-if2
 mul-if2 c = omega (arith, walks (c .before) .1)
 
--- src/lib.rt:74:13
 shared-slice-read-if2 : tie.Need-shared-slice-read-if2
 shared-slice-read-if2 c = omega (arith, walks (c .before .before) .1)
 
--- src/lib.rt:75:36
 add-t17 : tie.Need-add-t17
 add-t17 c = omega (arith, walks (c .before .before .before) .1)
 
--- src/lib.rt:75:50
 least-requires : tie.Need-least-requires
 least-requires c κs = search needs
 
--- src/lib.rt:75:13
 returns : tie.Need-returns
 returns c =
     let n = c .before .before .before in
@@ -67,11 +56,9 @@ returns c =
           (below-next starts (s .args .n) (s .args .k + 1) (s .args .limit) (n .entry-or .result) _ u (n .entry-or .ensures) r h);
     }
 
--- src/lib.rt:78:5
 bisect-right-until-requires : tie.Need-bisect-right-until-requires
 bisect-right-until-requires c κs = search needs
 
--- src/lib.rt:68:1
 returns-2 : tie.Need-returns-2
 returns-2 c = let f = c .bisect-right-until .ensures in record { after = f .after; within = f .within; stays = f .stays }
 

@@ -1,9 +1,8 @@
 -- The invariant of both loops: every position before p gives a value. What a search found, it finds for each position up to `until`.
-use Prim.Native.Nat.{ℕ, _+_, _-_, _≤_, _<_}
-use mathlib.Core.Bool.{Bool, true, false}
-use mathlib.Core.Path.{_≡_, refl, sym, ap, _∙_}
+use Prim.Native.Nat.{_-_, _≤_, _<_}
+use mathlib.Core.Path.{_≡_, sym, ap, _∙_}
 use native.Mathlib.Omega.{arith}
-use lib.ListN.{length, getD}
+use lib.ListN.{getD}
 use denote.Ref.{now}
 use borrow.Author.Needs.{needs}
 use Rattle.rules.specs.declared.Got.{Got}

@@ -8,92 +8,67 @@ use Rattle.compact_range.proofs.Deciding.{sure-none, sure-all}
 use borrow.Author.Needs.{needs}
 use Rattle.compact_range.proofs.sure_until.Statement.{statement}
 use Rattle.compact_range.proofs.sure_until.Tie as tie
-use Rattle.compact_range.proofs.sure_until.Reads as reads
-use Rattle.compact_range.proofs.sure_until.Lts as lts
-use Rattle.delta.proofs.all_fit.Reads as all-fit-reads
-use Rattle.tables.proofs.width_of.Reads as width-of-reads
 
--- src/lib.rt:108:17
 mul-start : tie.Need-mul-start
 mul-start c = search needs
 
--- src/lib.rt:108:17
 shared-slice-read-start : tie.Need-shared-slice-read-start
 shared-slice-read-start c = search needs
 
--- src/lib.rt:109:16
 mul-base : tie.Need-mul-base
 mul-base c = search needs
 
--- src/lib.rt:109:16
 shared-slice-read-base : tie.Need-shared-slice-read-base
 shared-slice-read-base c = search needs
 
--- src/lib.rt:110:18
 mul-offset : tie.Need-mul-offset
 mul-offset c = search needs
 
--- src/lib.rt:110:18
 shared-slice-read-offset : tie.Need-shared-slice-read-offset
 shared-slice-read-offset c = search needs
 
--- src/lib.rt:111:24
 width-of-requires : tie.Need-width-of-requires
 width-of-requires c κs = search needs
 
--- src/lib.rt:111:19
 enum-known-w : tie.Need-enum-known-w
 enum-known-w c = search needs
 
--- src/lib.rt:112:9
 enum-told : tie.Need-enum-told
 enum-told c = search needs
 
--- src/lib.rt:112:9
 returns : tie.Need-returns
 returns c = sure-none _ _ _ _ (omega arith)
 
--- src/lib.rt:114:17
 cast-width : tie.Need-cast-width
 cast-width c = search needs
 
--- src/lib.rt:116:9
 returns-2 : tie.Need-returns-2
 returns-2 c = sure-none _ _ _ _ (omega arith)
 
--- src/lib.rt:119:9
 returns-3 : tie.Need-returns-3
 returns-3 c = sure-none _ _ _ _ (omega arith)
 
--- src/lib.rt:122:9
 returns-4 : tie.Need-returns-4
 returns-4 c = sure-none _ _ _ _ (omega arith)
 
--- src/lib.rt:124:8
 div-if4 : tie.Need-div-if4
 div-if4 c = search needs
 
--- src/lib.rt:124:34
 sub-if4 : tie.Need-sub-if4
 sub-if4 c = search needs
 
--- src/lib.rt:124:34
 sub-if4-2 : tie.Need-sub-if4-2
 sub-if4-2 c = search needs
 
--- src/lib.rt:125:9
 returns-5 : tie.Need-returns-5
 returns-5 c = sure-none _ _ _ _ (omega arith)
 
--- src/lib.rt:127:9
 all-fit-requires : tie.Need-all-fit-requires
 all-fit-requires c κs = search needs
 
--- src/lib.rt:128:9
 returns-6 : tie.Need-returns-6
 returns-6 c = sure-none _ _ _ _ (omega arith)
 
--- src/lib.rt:92:1
 returns-7 : tie.Need-returns-7
 returns-7 c =
     let f = c .before .before .before .before .before in
