@@ -17,7 +17,7 @@ use Rattle.laws.proofs.Tests.{by-test, false-not-true, taken}
 use Rattle.laws.proofs.Counts.{facts-counts}
 use Rattle.laws.proofs.Halving.{halving-edge}
 use Rattle.laws.proofs.Bytes.{delta-below, room-fits}
-use Rattle.compact_range.specs.Values.{isValue, ValuesIn, Values, Sure}
+use Rattle.compact_range.specs.Values.{Stays, isValue, ValuesIn, Values, Sure}
 
 -- what makes the reads of segment k sure up to `until`, whatever its deltas are: a width w within m to 8, room for every delta, and
 -- a base that any delta of w bytes may be added to
@@ -93,7 +93,7 @@ module _ (x : Index) (number p : ℕ) (ok : Facts (ordersOf x)) (l : p < lengthO
 
 -- a search that found the same segment from p up to `until`
 module _ (x : Index) (number p until : ℕ) (ok : Facts (ordersOf x)) (long : until ≤ lengthOf x) (some : number ≡ 0 → ⊥)
-    (stays : (u : ℕ) → p ≤ u → u < until → number ≡ halving (atMost (x .starts) u) (segmentsOf x) .number) where
+    (stays : Stays (x .starts) (segmentsOf x) p number until) where
   -- each get from there on reads in that segment
   pub get-here : (q : ℕ) → p ≤ q → q < until → getRule x q ≡ readIn x (number - 1) q
   get-here q l u = get-at x number q ok (omega arith) (stays q l u) some

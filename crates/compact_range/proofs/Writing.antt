@@ -12,10 +12,10 @@ use borrow.Author.Tests.{eqb-true, eqb-false, le-ltb, ne-eqb}
 use Rattle.rules.specs.Words.{Facts}
 use Rattle.rules.specs.Record.{Index, minimumOf, lengthOf, segmentsOf, widthsOf, usedOf, start, base, offset, width}
 use Rattle.rules.specs.Push.{deltaAt}
-use Rattle.rules.specs.Reading.{halving, atMost, deltaRead, readIn, getRule}
+use Rattle.rules.specs.Reading.{deltaRead, readIn, getRule}
 use Rattle.laws.specs.Orders.{ordersOf}
 use Rattle.laws.proofs.Tests.{by-test, if-case}
-use Rattle.compact_range.specs.Values.{isValue, valueOf, ValuesIn, sums, Fits, inSegment, gets, puts, Based}
+use Rattle.compact_range.specs.Values.{Stays, isValue, valueOf, ValuesIn, sums, Fits, inSegment, gets, puts, Based}
 use Rattle.compact_range.proofs.Deciding.{get-here}
 
 -- nothing put
@@ -79,14 +79,18 @@ delta-of m used bytes base offset i w =
     (λ n e. let z : _≡_ {A = ℕ} 0 1 = cc in absurd (omega arith))
 
 module _ (x : Index) (k : ℕ) where
+  -- where the delta of position q starts, with deltas of w bytes
+  abbrev place : ℕ → ℕ → ℕ
+  place q w = offset x k + (q - start x k - 1) * w
+
   -- position q of segment k is a delta that gives a value
   record DeltaOf (q : ℕ) : Type 0 where
     pub has : ltb k (widthsOf x) ≡ true
     pub least : minimumOf x ≤ width x k
     pub most : width x k ≤ 8
-    pub ends : offset x k + (q - start x k - 1) * width x k + width x k ≤ usedOf x
-    pub fits : base x k + deltaAt (x .bytes) (offset x k + (q - start x k - 1) * width x k) (width x k) < 2 ^ 64
-    pub is : valueOf (readIn x k q) ≡ base x k + deltaAt (x .bytes) (offset x k + (q - start x k - 1) * width x k) (width x k)
+    pub ends : place q (width x k) + width x k ≤ usedOf x
+    pub fits : base x k + deltaAt (x .bytes) (place q (width x k)) (width x k) < 2 ^ 64
+    pub is : valueOf (readIn x k q) ≡ base x k + deltaAt (x .bytes) (place q (width x k)) (width x k)
 
   read-delta : (q : ℕ) → start x k < q → isValue (readIn x k q) ≡ true → DeltaOf q
   unfolding readIn
@@ -104,24 +108,24 @@ module _ (x : Index) (k : ℕ) where
     pub has : ltb k (widthsOf x) ≡ true
     pub least : minimumOf x ≤ w
     pub most : w ≤ 8
-    pub room : offset x k + (q - start x k - 1) * w + (until - q) * w ≤ usedOf x
-    pub fits : Fits (x .bytes) (base x k) (offset x k + (q - start x k - 1) * w) w (until - q)
-    pub same : (j : ℕ) → j < until - q → sums (x .bytes) (base x k) (offset x k + (q - start x k - 1) * w) w j ≡ valueOf (readIn x k (q + j))
+    pub room : place q w + (until - q) * w ≤ usedOf x
+    pub fits : Fits (x .bytes) (base x k) (place q w) w (until - q)
+    pub same : (j : ℕ) → j < until - q → sums (x .bytes) (base x k) (place q w) w j ≡ valueOf (readIn x k (q + j))
 
   pub run-of : (w p q until : ℕ) → width x k ≡ w → ValuesIn x k p until → p ≤ q → start x k < q → q < until → RunOf w q until
   run-of w p q until c run h l u =
       let d = read-delta q l (run q h u) in
       let z = read-delta (until - 1) (omega arith) (run (until - 1) (omega arith) (omega arith)) in
       let e = deltas-end (offset x k) (start x k) q until (width x k) l u in
-      let place : (j : ℕ) → offset x k + (q - start x k - 1) * width x k + j * width x k ≡ offset x k + (q + j - start x k - 1) * width x k =
+      let moved : (j : ℕ) → place q (width x k) + j * width x k ≡ place (q + j) (width x k) =
       λ j. delta-place (offset x k) (start x k) q j (width x k) l in
       rw (← c) (record {
         has = d .has;
         least = d .least;
         most = d .most;
         room = rw e (z .ends);
-        fits = λ j i. rw (place j) (read-delta (q + j) (omega arith) (run (q + j) (omega arith) (omega arith)) .fits);
-        same = λ j i. rw (place j) (sym (read-delta (q + j) (omega arith) (run (q + j) (omega arith) (omega arith)) .is));
+        fits = λ j i. rw (moved j) (read-delta (q + j) (omega arith) (run (q + j) (omega arith) (omega arith)) .fits);
+        same = λ j i. rw (moved j) (sym (read-delta (q + j) (omega arith) (run (q + j) (omega arith) (omega arith)) .is));
       })
 
   -- the next position after the base is put
@@ -158,7 +162,7 @@ module _ (x : Index) (k : ℕ) where
 
 -- a range's values up to p, and those of the segment that the search found
 pub range-puts : (x : Index) (number p until : ℕ) → Facts (ordersOf x) → until ≤ lengthOf x → (number ≡ 0 → ⊥)
-    → ((u : ℕ) → p ≤ u → u < until → number ≡ halving (atMost (x .starts) u) (segmentsOf x) .number) → (a : ℕ) (out : List ℕ) → a ≤ p → p ≤ until
+    → Stays (x .starts) (segmentsOf x) p number until → (a : ℕ) (out : List ℕ) → a ≤ p → p ≤ until
     → puts (inSegment x (number - 1) p) (p - a) (until - p) (puts (gets x a) 0 (p - a) out) ≡ puts (gets x a) 0 (until - a) out
 range-puts x number p until ok long some stays a out h l =
     let z : p - a ≡ 0 + (p - a) = omega arith in

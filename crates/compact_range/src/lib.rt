@@ -1,4 +1,4 @@
-// get_range on any tables: one search a segment, the whole range decided before its first value is written.
+// get_range on any tables: at most one search a segment, and the whole range decided before its first value is written.
 use index_stream::Found;
 use rules::Got;
 use rules::Refusal;
@@ -53,7 +53,7 @@ pub fn get_range(
     Got::Value(b - a)
 }
 
-// Whether the n starts never fall, so that segments follow one another; a range of fewer positions than that does not ask and takes no for it.
+// Whether the n starts never fall, so that segments follow one another. Not looked at, and no, for fewer positions than starts.
 fn rises(starts: &[u64], n: u64, positions: u64) -> bool
     requires { ⌜ n ≤ length (now starts) ⌝ }
     ensures { λ r. ⌜ (r ≡ true → Rises (now (starts .entry)) n) ⌝ }
@@ -73,7 +73,7 @@ fn rises(starts: &[u64], n: u64, positions: u64) -> bool
     }
 }
 
-// What the search for p finds and up to where: where the starts rise, segment k without a search if it holds p.
+// What the search for p finds, and up to where. Where the starts rise and segment k holds p, it needs no search.
 fn find(starts: &[u64], n: u64, rising: bool, k: u64, p: u64, limit: u64) -> Found
     requires { ⌜ (n ≤ length (now starts)) × (p < limit) × (rising ≡ true → Rises (now starts) n) ⌝ }
     ensures { λ r. ⌜ Finds (now (starts .entry)) n p limit r ⌝ }
