@@ -21,7 +21,8 @@ pub fn next(
     ensures answers { λ r. ⌜ stepOf r ≡ stepRule (index s (now (starts .entry)) (now (bases .entry)) (now (offsets .entry)) (now (widths .entry)) (now (bytes .entry))) (now (c .entry)) ⌝ }
     ensures moves { λ _. ⌜ now (c .exit) ≡ leftBy (now (c .entry)) (stepRule (index s (now (starts .entry)) (now (bases .entry)) (now (offsets .entry)) (now (widths .entry)) (now (bytes .entry))) (now (c .entry))) ⌝ }
 {
-    let stepped = compact_iterator::step(*c, s, starts, bases, offsets, widths, bytes);
-    c.next = compact_iterator::next_of(*c, stepped);
+    let before = *c;
+    let stepped = compact_iterator::step(before, s, starts, bases, offsets, widths, bytes);
+    c.next = compact_iterator::next_of(before, stepped);
     stepped
 }
