@@ -59,10 +59,13 @@ use Rattle.rules.proofs.Step as S
 use Rattle.rules.proofs.Step.Laws as S′
 use Rattle.compact_iterator.proofs.step as step-by
 use Rattle.compact_iterator.proofs.step.Symbol as step-by-def
+use Rattle.compact_iterator.proofs.step.Symbol.{name as #step}
 use Rattle.compact_iterator.proofs.step.Met as step-by-thm
 use Rattle.compact_iterator.proofs.next_of as next-of
 use Rattle.compact_iterator.proofs.next_of.Symbol as next-of-def
+use Rattle.compact_iterator.proofs.next_of.Symbol.{name as #next-of}
 use Rattle.compact_iterator.proofs.next_of.Met as next-of-thm
+use Rattle.compact_cursor.proofs.next.Key.{name as #next}
 use Rattle.compact_cursor.proofs.next as next
 use Rattle.compact_cursor.proofs.next.Statement as stated
 use Rattle.compact_cursor.proofs.next.Code as code

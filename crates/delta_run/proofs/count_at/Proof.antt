@@ -47,7 +47,9 @@ use Rattle.rules.proofs.Got as S
 use Rattle.rules.proofs.Got.Laws as S′
 use Rattle.delta_run.proofs.count as count
 use Rattle.delta_run.proofs.count.Symbol as count-def
+use Rattle.delta_run.proofs.count.Symbol.{name as #delta-run·count}
 use Rattle.delta_run.proofs.count.Met as count-thm
+use Rattle.delta_run.proofs.count_at.Key.{name as #delta-run·count-at}
 use Rattle.delta_run.proofs.count_at as count-at
 use Rattle.delta_run.proofs.count_at.Statement as stated
 use Rattle.delta_run.proofs.count_at.Code as code

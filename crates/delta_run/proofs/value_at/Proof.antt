@@ -47,7 +47,9 @@ use Rattle.rules.proofs.Got as S
 use Rattle.rules.proofs.Got.Laws as S′
 use Rattle.delta_run.proofs.value as value
 use Rattle.delta_run.proofs.value.Symbol as value-def
+use Rattle.delta_run.proofs.value.Symbol.{name as #delta-run·value}
 use Rattle.delta_run.proofs.value.Met as value-thm
+use Rattle.delta_run.proofs.value_at.Key.{name as #delta-run·value-at}
 use Rattle.delta_run.proofs.value_at as value-at
 use Rattle.delta_run.proofs.value_at.Statement as stated
 use Rattle.delta_run.proofs.value_at.Code as code
