@@ -14,6 +14,7 @@ use prog.Memory.{Memory}
 use prog.Routine.{Routine}
 use prog.Wp.{Heap, Calls, Loops, WpFn, Tables}
 use ghost.Atoms.{Atoms, sem}
+use contract.Lifetimes.{Lfts, Shares, toks}
 use contract.Monad.{Fun, fact}
 use contract.Running.{givenOf, tables, tablesOf}
 use types.Kit.{Given, ‵, raw, some, later, _⊛_, ⋆, _$_, _∵_, !, qed, by, move, drop, use1, use2, split, join, pick, rewrite, fsplit, fsplit3, fjoin, fjoin3, feqI, suffices, frame, await, done}
@@ -70,18 +71,15 @@ use Rattle.compact_cursor.proofs.next as next
 use Rattle.compact_cursor.proofs.next.Statement as stated
 use Rattle.compact_cursor.proofs.next.Code as code
 
--- ---- the parameters after the cursor: their types, their values, their machine values, and that each can be had twice
-abbrev Tys : Lft → Lft → Lft → Lft → Lft → List RattleType
-Tys κ1 κ2 κ3 κ4 κ5 = ST.the-row ∷ ShrSlice (named 1) κ1 u64 ∷ ShrSlice (named 2) κ2 u64 ∷ ShrSlice (named 3) κ3 u64 ∷ ShrSlice (named 4) κ4 u8 ∷ ShrSlice (named 5) κ5 u8 ∷ []
-
-abbrev List1 : Type 0
-List1 = RefT (List ℕ)
+-- the parameters after the cursor: their types, their values, their machine values, and that each can be had twice
+abbrev Tys : Lfts 5 → List RattleType
+Tys κs = ST.the-row ∷ ShrSlice (named 1) (κs .0) u64 ∷ ShrSlice (named 2) (κs .1 .0) u64 ∷ ShrSlice (named 3) (κs .1 .1 .0) u64 ∷ ShrSlice (named 4) (κs .1 .1 .1 .0) u8 ∷ ShrSlice (named 5) (κs .1 .1 .1 .1 .0) u8 ∷ []
 
 abbrev Rest : Type 0
-Rest = State × (List1 × (List1 × (List1 × (List1 × (List1 × Unit {0})))))
+Rest = State × (RefT (List ℕ) × (RefT (List ℕ) × (RefT (List ℕ) × (RefT (List ℕ) × (RefT (List ℕ) × Unit {0})))))
 
-abbrev rest-vals : (κ1 κ2 κ3 κ4 κ5 : Lft) → Rest → Valss (Tys κ1 κ2 κ3 κ4 κ5)
-rest-vals κ1 κ2 κ3 κ4 κ5 t = (ST′.lowered (t .0) ∷ [], (slice-vals (t .1 .0), (slice-vals (t .1 .1 .0), (slice-vals (t .1 .1 .1 .0), (slice-vals (t .1 .1 .1 .1 .0), (slice-vals (t .1 .1 .1 .1 .1 .0), tt))))))
+abbrev rest-vals : (κs : Lfts 5) → Rest → Valss (Tys κs)
+rest-vals κs t = (ST′.lowered (t .0) ∷ [], (slice-vals (t .1 .0), (slice-vals (t .1 .1 .0), (slice-vals (t .1 .1 .1 .0), (slice-vals (t .1 .1 .1 .1 .0), (slice-vals (t .1 .1 .1 .1 .1 .0), tt))))))
 
 -- the index that is read
 abbrev read : Rest → Index
@@ -95,9 +93,9 @@ Said h t r = stepOf r ≡ stepRule (read t) h
 abbrev Moved : Cursor → Step → ℕ → Type 0
 Moved h r m = m ≡ leftBy h (stepOf r) .next
 
-module _ {M : Type 1} (𝓤 : URA M) (H : Heap 𝓤) (A : Atoms 𝓤) (W : Given 𝓤 H A) (κ1 κ2 κ3 κ4 κ5 : Lft) where
-  abbrev copied : Copies 𝓤 H A (Tys κ1 κ2 κ3 κ4 κ5)
-  copied = (LL.copy ST.the-type ST′.the-copy 𝓤 H A W, (shr-slice-copy 𝓤 H A W (named 1) κ1 u64, (shr-slice-copy 𝓤 H A W (named 2) κ2 u64, (shr-slice-copy 𝓤 H A W (named 3) κ3 u64, (shr-slice-copy 𝓤 H A W (named 4) κ4 u8, (shr-slice-copy 𝓤 H A W (named 5) κ5 u8, tt))))))
+module _ {M : Type 1} (𝓤 : URA M) (H : Heap 𝓤) (A : Atoms 𝓤) (W : Given 𝓤 H A) (κs : Lfts 5) where
+  abbrev copied : Copies 𝓤 H A (Tys κs)
+  copied = (LL.copy ST.the-type ST′.the-copy 𝓤 H A W, (shr-slice-copy 𝓤 H A W (named 1) (κs .0) u64, (shr-slice-copy 𝓤 H A W (named 2) (κs .1 .0) u64, (shr-slice-copy 𝓤 H A W (named 3) (κs .1 .1 .0) u64, (shr-slice-copy 𝓤 H A W (named 4) (κs .1 .1 .1 .0) u8, (shr-slice-copy 𝓤 H A W (named 5) (κs .1 .1 .1 .1 .0) u8, tt))))))
 
 abbrev stayed : Stays (next.ended .signature .params) (next.ended .kept)
 stayed = (stay-ref (0 ∷ []) tt (plain (λ _. T.the-row)), (stay-none (λ _. ST.the-row) yes, (stay-none-slice (1 ∷ []) tt (plain (λ _. u64)) yes, (stay-none-slice (2 ∷ []) tt (plain (λ _. u64)) yes, (stay-none-slice (3 ∷ []) tt (plain (λ _. u64)) yes, (stay-none-slice (4 ∷ []) tt (plain (λ _. u8)) yes, (stay-none-slice (5 ∷ []) tt (plain (λ _. u8)) yes, tt)))))))
@@ -110,24 +108,29 @@ module _ {M : Type 1} (𝓤 : URA M) (H : Heap 𝓤) (A : Atoms 𝓤) (at-mem : 
   abbrev NextOf : Contract 𝓤
   NextOf = tripleOf 𝓤 H A next-of.signature (next-of.spec 𝓤 H A at-mem run)
 
-module _ {M : Type 1} (𝓤 : URA M) (H : Heap 𝓤) (A : Atoms 𝓤) (W : Given 𝓤 H A) (at-mem : Memory → SProp 𝓤) (run : Routine → Fun 𝓤) (κ κ1 κ2 κ3 κ4 κ5 : Lft) (q q1 q2 q3 q4 q5 : Share) (b o : ℕ) (γ : GName) (h : Cursor) (t : Rest) where
+module _ {M : Type 1} (𝓤 : URA M) (H : Heap 𝓤) (A : Atoms 𝓤) (W : Given 𝓤 H A) (at-mem : Memory → SProp 𝓤) (run : Routine → Fun 𝓤) (κ : Lft) (κs : Lfts 5) (q : Share) (qs : Shares 5) (b o : ℕ) (γ : GName) (h : Cursor) (t : Rest) where
   abbrev Arg : Type 0
   Arg = RefT Cursor × Rest
 
   abbrev a : Arg
   a = (record { ptr = (b, o); name = γ; now = h }, t)
 
-  abbrev vals : List Val × Valss (Tys κ1 κ2 κ3 κ4 κ5)
-  vals = (vptr b o ∷ [], rest-vals κ1 κ2 κ3 κ4 κ5 t)
+  abbrev vals : List Val × Valss (Tys κs)
+  vals = (vptr b o ∷ [], rest-vals κs t)
 
+  -- the tokens of the slices' lifetimes
+  abbrev Toks : SProp 𝓤
+  Toks = toks 𝓤 A 5 κs qs
+
+  -- what the parameters after the cursor own
   abbrev Tail : Fml
-  Tail = owns (Tys κ1 κ2 κ3 κ4 κ5) t (rest-vals κ1 κ2 κ3 κ4 κ5 t)
+  Tail = owns (Tys κs) t (rest-vals κs t)
 
   abbrev mach : ℕ → Val
   mach m = vstruct (vcons (vint w64 m) (vcons (vint w64 (h .end)) vnil))
 
   abbrev Post : Val → SProp 𝓤
-  Post = walkOf 𝓤 H A next.ended stayed (next.clauses 𝓤 H A at-mem run) .post (((κ, (κ1, (κ2, (κ3, (κ4, (κ5, tt)))))), (q, (q1, (q2, (q3, (q4, (q5, tt)))))), tt, a, vals), tt)
+  Post = walkOf 𝓤 H A next.ended stayed (next.clauses 𝓤 H A at-mem run) .post (((κ, κs), (q, qs), tt, a, vals), tt)
 
   -- what closing the borrow asks
   made : (m : ℕ) → m < 2 ^ 64 → Is T.the-row h (mach (h .next) ∷ []) → Is T.the-row (cursor m (h .end)) (mach m ∷ [])
@@ -135,18 +138,18 @@ module _ {M : Type 1} (𝓤 : URA M) (H : Heap 𝓤) (A : Atoms 𝓤) (W : Given
 
   -- the call of `step`: what it is passed, what it asks, and what is known of its result
   abbrev to-step : StepOf 𝓤 H A at-mem run .Ghost
-  to-step = (((κ1, (κ2, (κ3, (κ4, (κ5, tt))))), (q1, (q2, (q3, (q4, (q5, tt))))), tt, (h, t), (mach (h .next) ∷ [], rest-vals κ1 κ2 κ3 κ4 κ5 t)), tt)
+  to-step = ((κs, qs, tt, (h, t), (mach (h .next) ∷ [], rest-vals κs t)), tt)
 
-  asked : ent 𝓤 (onEntry 𝓤 H A step-by.signature (κ1, (κ2, (κ3, (κ4, (κ5, tt))))) (q1, (q2, (q3, (q4, (q5, tt))))) (h, t) (mach (h .next) ∷ [], rest-vals κ1 κ2 κ3 κ4 κ5 t)) (StepOf 𝓤 H A at-mem run .pre to-step)
-  asked = qed W ((‵ (flft κ1 q1) ⊛ ‵ (flft κ2 q2) ⊛ ‵ (flft κ3 q3) ⊛ ‵ (flft κ4 q4) ⊛ ‵ (flft κ5 q5) ⊛ ‵ ftrue) ∷ ‵ (owns (T.the-row ∷ Tys κ1 κ2 κ3 κ4 κ5) (h, t) (mach (h .next) ∷ [], rest-vals κ1 κ2 κ3 κ4 κ5 t)) ∷ []) ∵ join ! $ frame ! $ done !
+  asked : ent 𝓤 (onEntry 𝓤 H A step-by.signature κs qs (h, t) (mach (h .next) ∷ [], rest-vals κs t)) (StepOf 𝓤 H A at-mem run .pre to-step)
+  asked = qed W (raw Toks ∷ ‵ (owns (T.the-row ∷ Tys κs) (h, t) (mach (h .next) ∷ [], rest-vals κs t)) ∷ []) ∵ join ! $ frame ! $ done !
 
-  goes-step : Is T.the-row h (mach (h .next) ∷ []) → ent 𝓤 (⋆ 𝓤 H A ((‵ (flft κ1 q1) ⊛ ‵ (flft κ2 q2) ⊛ ‵ (flft κ3 q3) ⊛ ‵ (flft κ4 q4) ⊛ ‵ (flft κ5 q5) ⊛ ‵ ftrue) ∷ ‵ Tail ∷ [])) (sep 𝓤 (StepOf 𝓤 H A at-mem run .pre to-step) (sem 𝓤 H A Tail))
+  goes-step : Is T.the-row h (mach (h .next) ∷ []) → ent 𝓤 (⋆ 𝓤 H A (raw Toks ∷ ‵ Tail ∷ [])) (sep 𝓤 (StepOf 𝓤 H A at-mem run .pre to-step) (sem 𝓤 H A Tail))
   goes-step is =
-      qed W ((‵ (flft κ1 q1) ⊛ ‵ (flft κ2 q2) ⊛ ‵ (flft κ3 q3) ⊛ ‵ (flft κ4 q4) ⊛ ‵ (flft κ5 q5) ⊛ ‵ ftrue) ∷ ‵ Tail ∷ []) ∵ move ! (1 ∷ []) $ use1 W (‵ Tail ⊛ ‵ Tail) (twices 𝓤 H A W (Tys κ1 κ2 κ3 κ4 κ5) (copied 𝓤 H A W κ1 κ2 κ3 κ4 κ5) t (rest-vals κ1 κ2 κ3 κ4 κ5 t)) $ split ! $
+      qed W (raw Toks ∷ ‵ Tail ∷ []) ∵ move ! (1 ∷ []) $ use1 W (‵ Tail ⊛ ‵ Tail) (twices 𝓤 H A W (Tys κs) (copied 𝓤 H A W κs) t (rest-vals κs t)) $ split ! $
       owned ! T.the-row (Is T.the-row) (LL.makes T.the-type T′.the-plain 𝓤 H A) h _ is $ fjoin ! $ move ! (2 ∷ 0 ∷ []) $ use2 W (raw (StepOf 𝓤 H A at-mem run .pre to-step)) asked $ frame ! $ done !
 
-  step-said : (r : Step) → ent 𝓤 (ensured 𝓤 H A step-by.ended (step-by.clauses 𝓤 H A at-mem run) (κ1, (κ2, (κ3, (κ4, (κ5, tt))))) (h, t) tt r) (fact 𝓤 (Said h t r))
-  step-said r = exE 𝓤 _ (λ ws. snd∗ 𝓤 (sem 𝓤 H A (lasts step-by.ended (κ1, (κ2, (κ3, (κ4, (κ5, tt))))) (h, t) ws)) (fact 𝓤 (Said h t r)))
+  step-said : (r : Step) → ent 𝓤 (ensured 𝓤 H A step-by.ended (step-by.clauses 𝓤 H A at-mem run) κs (h, t) tt r) (fact 𝓤 (Said h t r))
+  step-said r = exE 𝓤 _ (λ ws. snd∗ 𝓤 (sem 𝓤 H A (lasts step-by.ended κs (h, t) ws)) (fact 𝓤 (Said h t r)))
 
   -- the call of `next_of`, at the step r with the machine value u
   abbrev to-next : Step → Val → NextOf 𝓤 H A at-mem run .Ghost
@@ -161,10 +164,10 @@ module _ {M : Type 1} (𝓤 : URA M) (H : Heap 𝓤) (A : Atoms 𝓤) (W : Given
   next-said r m = exE 𝓤 _ (λ ws. snd∗ 𝓤 (sem 𝓤 H A (lasts next-of.ended tt (h, (r, tt)) ws)) (fact 𝓤 (Moved h r m)))
 
   exits : (r : Step) (u : Val) (m : ℕ) → Said h t r → Moved h r m → Is S.the-row r (u ∷ [])
-      → ent 𝓤 (⋆ 𝓤 H A (‵ (fobs γ (T.the-row .coded .code (cursor m (h .end)))) ∷ ‵ (fbor κ (Body (mem T.the-row) b o γ)) ∷ ‵ (flft κ q) ∷ (‵ (flft κ1 q1) ⊛ ‵ (flft κ2 q2) ⊛ ‵ (flft κ3 q3) ⊛ ‵ (flft κ4 q4) ⊛ ‵ (flft κ5 q5) ⊛ ‵ ftrue) ∷ ‵ Tail ∷ [])) (Post u)
+      → ent 𝓤 (⋆ 𝓤 H A (‵ (fobs γ (T.the-row .coded .code (cursor m (h .end)))) ∷ ‵ (fbor κ (Body (mem T.the-row) b o γ)) ∷ ‵ (flft κ q) ∷ raw Toks ∷ ‵ Tail ∷ [])) (Post u)
   exits r u m e e′ is =
-      qed W (‵ (fobs γ (T.the-row .coded .code (cursor m (h .end)))) ∷ ‵ (fbor κ (Body (mem T.the-row) b o γ)) ∷ ‵ (flft κ q) ∷ (‵ (flft κ1 q1) ⊛ ‵ (flft κ2 q2) ⊛ ‵ (flft κ3 q3) ⊛ ‵ (flft κ4 q4) ⊛ ‵ (flft κ5 q5) ⊛ ‵ ftrue) ∷ ‵ Tail ∷ []) ∵
-      suffices ! _ (ends-at 𝓤 H A next.ended stayed (next.clauses 𝓤 H A at-mem run) W (((κ, (κ1, (κ2, (κ3, (κ4, (κ5, tt)))))), (q, (q1, (q2, (q3, (q4, (q5, tt)))))), tt, a, vals), tt) u r (cursor m (h .end), (tt, (tt, (tt, (tt, (tt, (tt, tt))))))) (tt, (tt, (tt, (tt, (tt, (tt, (tt, tt)))))))) $
+      qed W (‵ (fobs γ (T.the-row .coded .code (cursor m (h .end)))) ∷ ‵ (fbor κ (Body (mem T.the-row) b o γ)) ∷ ‵ (flft κ q) ∷ raw Toks ∷ ‵ Tail ∷ []) ∵
+      suffices ! _ (ends-at 𝓤 H A next.ended stayed (next.clauses 𝓤 H A at-mem run) W (((κ, κs), (q, qs), tt, a, vals), tt) u r (cursor m (h .end), (tt, (tt, (tt, (tt, (tt, (tt, tt))))))) (tt, (tt, (tt, (tt, (tt, (tt, (tt, tt)))))))) $
       says2 ! e (left-cursor (read t) h (stepOf r) m e e′) $
       move ! (2 ∷ 3 ∷ []) $ join ! $ frame ! $ feqI ! (List Val) (vptr b o ∷ []) (vptr b o ∷ []) refl $ fjoin3 ! $ fjoin ! $ frame ! $
       owned ! S.the-row (Is S.the-row) (EL.makes S.the-type S′.the-plain 𝓤 H A) r (u ∷ []) is $ done !
@@ -173,16 +176,16 @@ module _ {M : Type 1} (𝓤 : URA M) (H : Heap 𝓤) (A : Atoms 𝓤) (W : Given
     abbrev args : List Val
     args = vptr b o ∷ ST′.lowered (t .0) ∷ only (slice-vals (t .1 .0)) ∷ only (slice-vals (t .1 .1 .0)) ∷ only (slice-vals (t .1 .1 .1 .0)) ∷ only (slice-vals (t .1 .1 .1 .1 .0)) ∷ only (slice-vals (t .1 .1 .1 .1 .1 .0)) ∷ []
 
-    walk : Are (Tys κ1 κ2 κ3 κ4 κ5) (Ises (Tys κ1 κ2 κ3 κ4 κ5)) t (rest-vals κ1 κ2 κ3 κ4 κ5 t) → ent 𝓤 (onEntry 𝓤 H A next.signature (κ, (κ1, (κ2, (κ3, (κ4, (κ5, tt)))))) (q, (q1, (q2, (q3, (q4, (q5, tt)))))) a vals) (WpFn 𝓤 H C Λ code.function args Post)
+    walk : Are (Tys κs) (Ises (Tys κs)) t (rest-vals κs t) → ent 𝓤 (onEntry 𝓤 H A next.signature (κ, κs) (q, qs) a vals) (WpFn 𝓤 H C Λ code.function args Post)
     walk are =
-        qed W ((‵ (flft κ q) ⊛ ‵ (flft κ1 q1) ⊛ ‵ (flft κ2 q2) ⊛ ‵ (flft κ3 q3) ⊛ ‵ (flft κ4 q4) ⊛ ‵ (flft κ5 q5) ⊛ ‵ ftrue) ∷ ‵ (owns (MutRef (named 0) κ T.the-row ∷ Tys κ1 κ2 κ3 κ4 κ5) a vals) ∷ []) ∵ enter ! C Λ code.function args _ $
+        qed W ((‵ (flft κ q) ⊛ raw Toks) ∷ ‵ (owns (MutRef (named 0) κ T.the-row ∷ Tys κs) a vals) ∷ []) ∵ enter ! C Λ code.function args _ $
         alloc1 ! (λ l₀. alloc1 ! (λ l₁. alloc1 ! (λ l₂. alloc1 ! (λ l₃. alloc1 ! (λ l₄. alloc1 ! (λ l₅. alloc1 ! (λ l₆. alloc1 ! (λ l₇. alloc1 ! (λ l₈. alloc1 ! (λ l₉. alloc1 ! (λ l₁₀. alloc0 ! $ params1 ! $
         pass1 ! (init ! 18 refl (tt, tt)) $ pass1 ! (init ! 16 refl (LL.lawful ST.the-type ST′.the-laws 𝓤 H A W .typed (t .0) _ (are .0) .0)) $
-        pass1 ! (init ! 14 refl (shr-slice-lawful 𝓤 H A W (named 1) κ1 u64 .typed (t .1 .0) _ (are .1 .0) .0)) $
-        pass1 ! (init ! 12 refl (shr-slice-lawful 𝓤 H A W (named 2) κ2 u64 .typed (t .1 .1 .0) _ (are .1 .1 .0) .0)) $
-        pass1 ! (init ! 10 refl (shr-slice-lawful 𝓤 H A W (named 3) κ3 u64 .typed (t .1 .1 .1 .0) _ (are .1 .1 .1 .0) .0)) $
-        pass1 ! (init ! 8 refl (shr-slice-lawful 𝓤 H A W (named 4) κ4 u8 .typed (t .1 .1 .1 .1 .0) _ (are .1 .1 .1 .1 .0) .0)) $
-        pass1 ! (init ! 6 refl (shr-slice-lawful 𝓤 H A W (named 5) κ5 u8 .typed (t .1 .1 .1 .1 .1 .0) _ (are .1 .1 .1 .1 .1 .0) .0)) $
+        pass1 ! (init ! 14 refl (shr-slice-lawful 𝓤 H A W (named 1) (κs .0) u64 .typed (t .1 .0) _ (are .1 .0) .0)) $
+        pass1 ! (init ! 12 refl (shr-slice-lawful 𝓤 H A W (named 2) (κs .1 .0) u64 .typed (t .1 .1 .0) _ (are .1 .1 .0) .0)) $
+        pass1 ! (init ! 10 refl (shr-slice-lawful 𝓤 H A W (named 3) (κs .1 .1 .0) u64 .typed (t .1 .1 .1 .0) _ (are .1 .1 .1 .0) .0)) $
+        pass1 ! (init ! 8 refl (shr-slice-lawful 𝓤 H A W (named 4) (κs .1 .1 .1 .0) u8 .typed (t .1 .1 .1 .1 .0) _ (are .1 .1 .1 .1 .0) .0)) $
+        pass1 ! (init ! 6 refl (shr-slice-lawful 𝓤 H A W (named 5) (κs .1 .1 .1 .1 .0) u8 .typed (t .1 .1 .1 .1 .1 .0) _ (are .1 .1 .1 .1 .1 .0) .0)) $
         pass0 ! $
         -- the borrow of the cursor is opened
         move ! (23 ∷ []) $ fsplit ! $ fsplit3 ! $ drop ! $ move ! (25 ∷ []) $ split ! $ move ! (2 ∷ 3 ∷ 0 ∷ []) $
@@ -192,7 +195,7 @@ module _ {M : Type 1} (𝓤 : URA M) (H : Heap 𝓤) (A : Atoms 𝓤) (W : Given
         assigns ! (of-opd ! (load ! (from ! (hop ! (look ! 25 refl) (stop !))) (look-raw ! 0 refl))) (from ! (stop !)) (init ! 11 refl (LL.lawful T.the-type T′.the-laws 𝓤 H A W .typed h _ is .0)) $
         move ! (5 ∷ 6 ∷ []) $ use2 W (raw (StepOf 𝓤 H A at-mem run .pre to-step) ⊛ ‵ Tail) (goes-step is) $ split ! $
         calls-at ! fm (StepOf 𝓤 H A at-mem run) known-step to-step (and-then ! (load ! (from ! (stop !)) (look ! 11 refl)) (and-then ! (load ! (from ! (stop !)) (look ! 23 refl)) (and-then ! (load ! (from ! (stop !)) (look ! 21 refl)) (and-then ! (load ! (from ! (stop !)) (look ! 19 refl)) (and-then ! (load ! (from ! (stop !)) (look ! 17 refl)) (and-then ! (load ! (from ! (stop !)) (look ! 15 refl)) (and-then ! (load ! (from ! (stop !)) (look ! 13 refl)) (no-more !)))))))) (λ u.
-        use1 W (later (some (λ (r : Step). ((‵ (flft κ1 q1) ⊛ ‵ (flft κ2 q2) ⊛ ‵ (flft κ3 q3) ⊛ ‵ (flft κ4 q4) ⊛ ‵ (flft κ5 q5) ⊛ ‵ ftrue) ⊛ ‵ (S.the-row .own r (u ∷ []))) ⊛ raw (ensured 𝓤 H A step-by.ended (step-by.clauses 𝓤 H A at-mem run) (κ1, (κ2, (κ3, (κ4, (κ5, tt))))) (h, t) tt r)))) (id⊢ 𝓤 _) $ await ! tt $ pick ! (λ r.
+        use1 W (later (some (λ (r : Step). (raw Toks ⊛ ‵ (S.the-row .own r (u ∷ []))) ⊛ raw (ensured 𝓤 H A step-by.ended (step-by.clauses 𝓤 H A at-mem run) κs (h, t) tt r)))) (id⊢ 𝓤 _) $ await ! tt $ pick ! (λ r.
         split ! $ move ! (1 ∷ []) $ use1 W (raw (fact 𝓤 (Said h t r))) (step-said r) $ heard ! (Said h t r) (λ e. split ! $ move ! (1 ∷ []) $
         peeks ! S.the-row (Is S.the-row) (shows 𝓤 H A S.the-row) r (u ∷ []) (λ is-r.
         land ! (from ! (stop !)) (init ! 10 refl (EL.lawful S.the-type S′.the-laws 𝓤 H A W tt .typed r _ is-r .0)) $
@@ -216,7 +219,7 @@ module _ {M : Type 1} (𝓤 : URA M) (H : Heap 𝓤) (A : Atoms 𝓤) (W : Given
       → Walks 𝓤 H A next.ended stayed (WpFn 𝓤 H C Λ code.function) (next.clauses 𝓤 H A at-mem run)
   next-walks C Λ fm known-step known-next = walked 𝓤 H A next.ended stayed (next.clauses 𝓤 H A at-mem run) (WpFn 𝓤 H C Λ code.function)
       (λ κs. (ptr-vals, (LL.vals ST.the-type ST′.the-laws, (slice-vals, (slice-vals, (slice-vals, (slice-vals, (slice-vals, tt)))))))) (λ κs. (mut-tells (named 0) (κs .0) T.the-row, (LL.tells ST.the-type ST′.the-laws, (shr-slice-tells (named 1) (κs .1 .0) u64, (shr-slice-tells (named 2) (κs .1 .1 .0) u64, (shr-slice-tells (named 3) (κs .1 .1 .1 .0) u64, (shr-slice-tells (named 4) (κs .1 .1 .1 .1 .0) u8, (shr-slice-tells (named 5) (κs .1 .1 .1 .1 .1 .0) u8, tt))))))))
-      (λ κs qs bounds a g are. via 𝓤 _ (fst∗ 𝓤 _ (emp 𝓤)) (walk 𝓤 H A W at-mem run (κs .0) (κs .1 .0) (κs .1 .1 .0) (κs .1 .1 .1 .0) (κs .1 .1 .1 .1 .0) (κs .1 .1 .1 .1 .1 .0) (qs .0) (qs .1 .0) (qs .1 .1 .0) (qs .1 .1 .1 .0) (qs .1 .1 .1 .1 .0) (qs .1 .1 .1 .1 .1 .0) (a .0 .ptr .0) (a .0 .ptr .1) (a .0 .name) (a .0 .now) (a .1) C Λ fm known-step known-next (are .1)))
+      (λ κs qs bounds a g are. via 𝓤 _ (fst∗ 𝓤 _ (emp 𝓤)) (walk 𝓤 H A W at-mem run (κs .0) (κs .1) (qs .0) (qs .1) (a .0 .ptr .0) (a .0 .ptr .1) (a .0 .name) (a .0 .now) (a .1) C Λ fm known-step known-next (are .1)))
 
   goes : AllGo 𝓤 H A W 6 (next.signature .params) (next.ended .kept) stayed
   goes = (goes-ref 𝓤 H A W 6 0 tt (plain (λ _. T.the-row)), (goes-none 𝓤 H A W 6 (λ _. ST.the-row) yes (λ κs x f. refl), (goes-none-slice 𝓤 H A W 6 (1 ∷ []) tt (plain (λ _. u64)) yes, (goes-none-slice 𝓤 H A W 6 (2 ∷ []) tt (plain (λ _. u64)) yes, (goes-none-slice 𝓤 H A W 6 (3 ∷ []) tt (plain (λ _. u64)) yes, (goes-none-slice 𝓤 H A W 6 (4 ∷ []) tt (plain (λ _. u8)) yes, (goes-none-slice 𝓤 H A W 6 (5 ∷ []) tt (plain (λ _. u8)) yes, tt)))))))
