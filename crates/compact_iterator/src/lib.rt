@@ -1,10 +1,10 @@
 // A walk over a range of positions: opening it, and one step of it, with the cursor passed by value.
 use rules::Cursor;
 use rules::Got;
-use rules::Refusal;
 use rules::State;
 use rules::Step;
 use rules::Walk;
+use tables::Checked;
 ghost use mathlib.Core.Path.{_≡_};
 ghost use Rattle.rules.specs.Record.{index};
 ghost use Rattle.rules.specs.Reading.{iterRule, stepRule};
@@ -24,14 +24,17 @@ pub fn iter(
 ) -> Walk
     ensures { λ r. ⌜ walkOf r ≡ iterRule (index s (now (starts .entry)) (now (bases .entry)) (now (offsets .entry)) (now (widths .entry)) (now (bytes .entry))) a b ⌝ }
 {
-    if !tables::counts_hold(s, starts, bases, offsets, widths, bytes) {
-        return Walk::Refused(Refusal::Counts);
-    }
-    if s.length < b {
-        return Walk::Refused(Refusal::RangeEnd);
-    }
-    if b < a {
-        return Walk::Refused(Refusal::Reversed);
+    if let Checked::Refused(e) = tables::check_range(
+        s,
+        starts,
+        bases,
+        offsets,
+        widths,
+        bytes,
+        a,
+        b,
+    ) {
+        return Walk::Refused(e);
     }
     Walk::From(Cursor { next: a, end: b })
 }

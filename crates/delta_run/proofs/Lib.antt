@@ -1,1 +1,2 @@
 mod Runs
+mod Counts

@@ -60,13 +60,10 @@ pub fn count_of(bytes: &[u8], width: u64) -> Got
 pub fn value_of(bytes: &[u8], base: u64, width: u64, i: u64) -> Got
     ensures { λ r. ⌜ answerOf r ≡ runValueRule (now (bytes .entry)) base width i ⌝ }
 {
-    if width < 1 {
+    let Got::Value(count) = count_of(bytes, width) else {
         return Got::Refused(Refusal::Damaged);
-    }
-    if 8 < width {
-        return Got::Refused(Refusal::Damaged);
-    }
-    if bytes.len() as u64 / width <= i {
+    };
+    if count <= i {
         return Got::Refused(Refusal::Position);
     }
     let delta = delta::delta_at(bytes, i * width, width);

@@ -1,5 +1,6 @@
 -- Done is decided by the cursor alone; past it, the answer is that of get.
 use mathlib.Core.Path.{sym, ap, _∙_}
+use native.Mathlib.Omega.{arith}
 use borrow.Author.Tests.{le-leb, lt-leb}
 use Rattle.rules.specs.Reading.{stepRule}
 use Rattle.rules.specs.Refusals.{answerOf}
@@ -9,7 +10,7 @@ use Rattle.compact_iterator.proofs.step.Tie as tie
 
 returns : tie.Need-returns
 unfolding stepRule
-returns c = rw (le-leb _ _ (c .if1 .taken))
+returns c = let from = c .before .before .before .before .before .before .args .c in rw (le-leb (from .end) (from .next) (omega arith))
 
 get-requires : tie.Need-get-requires
 get-requires c κs = search needs
@@ -25,11 +26,15 @@ enum-known-e c = search needs
 
 returns-2 : tie.Need-returns-2
 unfolding stepRule
-returns-2 c = rw (lt-leb _ _ (c .before .before .before .before .if1 .left), sym (c .before .before .before .get .ensures) ∙ ap answerOf (c .before .v .given .1))
+returns-2 c = 
+    let from = c .before .before .before .before .before .before .before .before .before .before .args .c in
+    rw (lt-leb (from .end) (from .next) (omega (arith, c .before .before .before .before .if1 .left)), sym (c .before .before .before .get .ensures) ∙ ap answerOf (c .before .v .given .1))
 
 returns-3 : tie.Need-returns-3
 unfolding stepRule
-returns-3 c = rw (lt-leb _ _ (c .before .before .before .before .if1 .left), sym (c .before .before .before .get .ensures) ∙ ap answerOf (c .before .e .given .1))
+returns-3 c = 
+    let from = c .before .before .before .before .before .before .before .before .before .before .args .c in
+    rw (lt-leb (from .end) (from .next) (omega (arith, c .before .before .before .before .if1 .left)), sym (c .before .before .before .get .ensures) ∙ ap answerOf (c .before .e .given .1))
 
 pub step-spec : {M : Type 1} → statement M
 step-spec =
