@@ -24,16 +24,8 @@ pub fn iter(
 ) -> Walk
     ensures { λ r. ⌜ walkOf r ≡ iterRule (index s (now (starts .entry)) (now (bases .entry)) (now (offsets .entry)) (now (widths .entry)) (now (bytes .entry))) a b ⌝ }
 {
-    if let Checked::Refused(e) = tables::check_range(
-        s,
-        starts,
-        bases,
-        offsets,
-        widths,
-        bytes,
-        a,
-        b,
-    ) {
+    let checked = tables::check_range(s, starts, bases, offsets, widths, bytes, a, b);
+    if let Checked::Refused(e) = checked {
         return Walk::Refused(e);
     }
     Walk::From(Cursor { next: a, end: b })

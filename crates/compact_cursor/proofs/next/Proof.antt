@@ -1,6 +1,6 @@
 -- A walk of the MIR by hand: the borrow of the cursor is opened and the cursor copied out; step is called on the copy and on what else was passed;
 -- next_of says where that step leaves the cursor; the number is stored in the cell, and the borrow is closed at the moved cursor.
--- What the parameters after the cursor own, `Tail`, is one formula: it is had twice, one copy goes to step, which takes the same parameters, one stays for the exit.
+-- What the parameters after the cursor own, `RestOwn`, is one formula: it is had twice, one copy goes to step, which takes the same parameters, one stays for the exit.
 use mathlib.Core.Path.{_≡_, refl, ap}
 use Prim.Native.Nat.{ℕ, _<_, _^_}
 use mathlib.Core.List.{[], _∷_, List}
@@ -123,8 +123,8 @@ module _ {M : Type 1} (𝓤 : URA M) (H : Heap 𝓤) (A : Atoms 𝓤) (W : Given
   Toks = toks 𝓤 A 5 κs qs
 
   -- what the parameters after the cursor own
-  abbrev Tail : Fml
-  Tail = owns (Tys κs) t (rest-vals κs t)
+  abbrev RestOwn : Fml
+  RestOwn = owns (Tys κs) t (rest-vals κs t)
 
   abbrev mach : ℕ → Val
   mach m = vstruct (vcons (vint w64 m) (vcons (vint w64 (h .end)) vnil))
@@ -143,9 +143,9 @@ module _ {M : Type 1} (𝓤 : URA M) (H : Heap 𝓤) (A : Atoms 𝓤) (W : Given
   asked : ent 𝓤 (onEntry 𝓤 H A step-by.signature κs qs (h, t) (mach (h .next) ∷ [], rest-vals κs t)) (StepOf 𝓤 H A at-mem run .pre to-step)
   asked = qed W (raw Toks ∷ ‵ (owns (T.the-row ∷ Tys κs) (h, t) (mach (h .next) ∷ [], rest-vals κs t)) ∷ []) ∵ join ! $ frame ! $ done !
 
-  goes-step : Is T.the-row h (mach (h .next) ∷ []) → ent 𝓤 (⋆ 𝓤 H A (raw Toks ∷ ‵ Tail ∷ [])) (sep 𝓤 (StepOf 𝓤 H A at-mem run .pre to-step) (sem 𝓤 H A Tail))
+  goes-step : Is T.the-row h (mach (h .next) ∷ []) → ent 𝓤 (⋆ 𝓤 H A (raw Toks ∷ ‵ RestOwn ∷ [])) (sep 𝓤 (StepOf 𝓤 H A at-mem run .pre to-step) (sem 𝓤 H A RestOwn))
   goes-step is =
-      qed W (raw Toks ∷ ‵ Tail ∷ []) ∵ move ! (1 ∷ []) $ use1 W (‵ Tail ⊛ ‵ Tail) (twices 𝓤 H A W (Tys κs) (copied 𝓤 H A W κs) t (rest-vals κs t)) $ split ! $
+      qed W (raw Toks ∷ ‵ RestOwn ∷ []) ∵ move ! (1 ∷ []) $ use1 W (‵ RestOwn ⊛ ‵ RestOwn) (twices 𝓤 H A W (Tys κs) (copied 𝓤 H A W κs) t (rest-vals κs t)) $ split ! $
       owned ! T.the-row (Is T.the-row) (LL.makes T.the-type T′.the-plain 𝓤 H A) h _ is $ fjoin ! $ move ! (2 ∷ 0 ∷ []) $ use2 W (raw (StepOf 𝓤 H A at-mem run .pre to-step)) asked $ frame ! $ done !
 
   step-said : (r : Step) → ent 𝓤 (ensured 𝓤 H A step-by.ended (step-by.clauses 𝓤 H A at-mem run) κs (h, t) tt r) (fact 𝓤 (Said h t r))
@@ -164,9 +164,9 @@ module _ {M : Type 1} (𝓤 : URA M) (H : Heap 𝓤) (A : Atoms 𝓤) (W : Given
   next-said r m = exE 𝓤 _ (λ ws. snd∗ 𝓤 (sem 𝓤 H A (lasts next-of.ended tt (h, (r, tt)) ws)) (fact 𝓤 (Moved h r m)))
 
   exits : (r : Step) (u : Val) (m : ℕ) → Said h t r → Moved h r m → Is S.the-row r (u ∷ [])
-      → ent 𝓤 (⋆ 𝓤 H A (‵ (fobs γ (T.the-row .coded .code (cursor m (h .end)))) ∷ ‵ (fbor κ (Body (mem T.the-row) b o γ)) ∷ ‵ (flft κ q) ∷ raw Toks ∷ ‵ Tail ∷ [])) (Post u)
+      → ent 𝓤 (⋆ 𝓤 H A (‵ (fobs γ (T.the-row .coded .code (cursor m (h .end)))) ∷ ‵ (fbor κ (Body (mem T.the-row) b o γ)) ∷ ‵ (flft κ q) ∷ raw Toks ∷ ‵ RestOwn ∷ [])) (Post u)
   exits r u m e e′ is =
-      qed W (‵ (fobs γ (T.the-row .coded .code (cursor m (h .end)))) ∷ ‵ (fbor κ (Body (mem T.the-row) b o γ)) ∷ ‵ (flft κ q) ∷ raw Toks ∷ ‵ Tail ∷ []) ∵
+      qed W (‵ (fobs γ (T.the-row .coded .code (cursor m (h .end)))) ∷ ‵ (fbor κ (Body (mem T.the-row) b o γ)) ∷ ‵ (flft κ q) ∷ raw Toks ∷ ‵ RestOwn ∷ []) ∵
       suffices ! _ (ends-at 𝓤 H A next.ended stayed (next.clauses 𝓤 H A at-mem run) W (((κ, κs), (q, qs), tt, a, vals), tt) u r (cursor m (h .end), (tt, (tt, (tt, (tt, (tt, (tt, tt))))))) (tt, (tt, (tt, (tt, (tt, (tt, (tt, tt)))))))) $
       says2 ! e (left-cursor (read t) h (stepOf r) m e e′) $
       move ! (2 ∷ 3 ∷ []) $ join ! $ frame ! $ feqI ! (List Val) (vptr b o ∷ []) (vptr b o ∷ []) refl $ fjoin3 ! $ fjoin ! $ frame ! $
@@ -191,25 +191,29 @@ module _ {M : Type 1} (𝓤 : URA M) (H : Heap 𝓤) (A : Atoms 𝓤) (W : Given
         move ! (23 ∷ []) $ fsplit ! $ fsplit3 ! $ drop ! $ move ! (25 ∷ []) $ split ! $ move ! (2 ∷ 3 ∷ 0 ∷ []) $
         opens ! tt T.the-row {h = h} b o (λ vs. spelt ! T.the-row (Is T.the-row) (shows 𝓤 H A T.the-row) (LL.vals T.the-type T′.the-laws) (LL.tells T.the-type T′.the-laws) fullShare h vs b o $
         move ! (1 ∷ []) $ peeks ! T.the-row (Is T.the-row) (shows 𝓤 H A T.the-row) h (mach (h .next) ∷ []) (λ is. move ! (1 ∷ 0 ∷ []) $
-        -- [the cursor's cell; what a Cursor owns; the open borrow; obs; auth; the other tokens; Tail; the locals from 7 on, the last first]
+        -- [the cursor's cell; what a Cursor owns; the open borrow; obs; auth; Toks; RestOwn; _10 at 7; …; _9; …; _8 at 11; …; _7 at 13; …; _2 at 23; …; _1; …; room for _0; …]
         assigns ! (of-opd ! (load ! (from ! (hop ! (look ! 25 refl) (stop !))) (look-raw ! 0 refl))) (from ! (stop !)) (init ! 11 refl (LL.lawful T.the-type T′.the-laws 𝓤 H A W .typed h _ is .0)) $
-        move ! (5 ∷ 6 ∷ []) $ use2 W (raw (StepOf 𝓤 H A at-mem run .pre to-step) ⊛ ‵ Tail) (goes-step is) $ split ! $
+        -- step
+        move ! (5 ∷ 6 ∷ []) $ use2 W (raw (StepOf 𝓤 H A at-mem run .pre to-step) ⊛ ‵ RestOwn) (goes-step is) $ split ! $
         calls-at ! fm (StepOf 𝓤 H A at-mem run) known-step to-step (and-then ! (load ! (from ! (stop !)) (look ! 11 refl)) (and-then ! (load ! (from ! (stop !)) (look ! 23 refl)) (and-then ! (load ! (from ! (stop !)) (look ! 21 refl)) (and-then ! (load ! (from ! (stop !)) (look ! 19 refl)) (and-then ! (load ! (from ! (stop !)) (look ! 17 refl)) (and-then ! (load ! (from ! (stop !)) (look ! 15 refl)) (and-then ! (load ! (from ! (stop !)) (look ! 13 refl)) (no-more !)))))))) (λ u.
         use1 W (later (some (λ (r : Step). (raw Toks ⊛ ‵ (S.the-row .own r (u ∷ []))) ⊛ raw (ensured 𝓤 H A step-by.ended (step-by.clauses 𝓤 H A at-mem run) κs (h, t) tt r)))) (id⊢ 𝓤 _) $ await ! tt $ pick ! (λ r.
         split ! $ move ! (1 ∷ []) $ use1 W (raw (fact 𝓤 (Said h t r))) (step-said r) $ heard ! (Said h t r) (λ e. split ! $ move ! (1 ∷ []) $
         peeks ! S.the-row (Is S.the-row) (shows 𝓤 H A S.the-row) r (u ∷ []) (λ is-r.
         land ! (from ! (stop !)) (init ! 10 refl (EL.lawful S.the-type S′.the-laws 𝓤 H A W tt .typed r _ is-r .0)) $
+        -- next_of: [what the step owns; Toks; RestOwn; the cell; what a Cursor owns; the open borrow; obs; auth; _10 at 8; …; _9 at 10; …; _8 at 12; …; _1 at 26; …; room for _0; …]
         use1 W (raw (NextOf 𝓤 H A at-mem run .pre (to-next r u))) (goes-next is r u) $
         calls-at ! fm (NextOf 𝓤 H A at-mem run) known-next (to-next r u) (and-then ! (load ! (from ! (stop !)) (look ! 12 refl)) (and-then ! (load ! (from ! (stop !)) (look ! 10 refl)) (no-more !))) (λ u′.
         use1 W (later (some (λ (m : ℕ). (‵ ftrue ⊛ ‵ (u64 .own m (u′ ∷ []))) ⊛ raw (ensured 𝓤 H A next-of.ended (next-of.clauses 𝓤 H A at-mem run) tt (h, (r, tt)) tt m)))) (id⊢ 𝓤 _) $ await ! tt $ pick ! (λ m.
         split ! $ move ! (1 ∷ []) $ use1 W (raw (fact 𝓤 (Moved h r m))) (next-said r m) $ heard ! (Moved h r m) (λ e′. split ! $ drop ! $
         peeks ! u64 (Is u64) (shows 𝓤 H A u64) m (u′ ∷ []) (λ is-m.
         land ! (from ! (stop !)) (init ! 8 refl (uint-lawful 𝓤 H A W w64 .typed m _ is-m .0)) $ rewrite ! 8 (λ (w : Val). ‵ (fat fullShare (tyInt w64) l₁₀ 0 w)) (ap only (is-m .0)) refl $
+        -- the number is stored in the cell, and the result is written
         assigns ! (of-opd ! (load ! (from ! (stop !)) (look ! 8 refl))) (from ! (hop ! (look ! 26 refl) (fld ! refl (stop !)))) (store-in ! 3 (sub ! 0 refl (whole !)) (tt, record { fits = is-m .1 })) $
         assigns ! (of-opd ! (load ! (from ! (stop !)) (look ! 10 refl))) (from ! (stop !)) (init ! 28 refl (EL.lawful S.the-type S′.the-laws 𝓤 H A W tt .typed r _ is-r .0)) $
         -- the borrow is closed at the moved cursor
         drop ! $ move ! (3 ∷ []) $ drop ! $ owned ! T.the-row (Is T.the-row) (LL.makes T.the-type T′.the-plain 𝓤 H A) (cursor m (h .end)) _ (made m (is-m .1) is) $
         move ! (3 ∷ 0 ∷ 4 ∷ 5 ∷ 6 ∷ []) $ closes ! tt T.the-row (cursor m (h .end)) (mach m ∷ []) b o $
+        -- [obs; the borrow; the token κ; Toks; RestOwn; _10 at 5; …; room for _0 at 25; …]
         returns ! (look ! 25 refl) $ forget ! 5 refl $ forget ! 7 refl $ forget ! 9 refl $ forget ! 11 refl $ forget ! 13 refl $ forget ! 15 refl $ forget ! 17 refl $ forget ! 19 refl $ forget ! 21 refl $ forget ! 23 refl $ forget ! 25 refl $
         move ! (25 ∷ 26 ∷ []) $ free1 ! $ move ! (23 ∷ 24 ∷ []) $ free1 ! $ move ! (21 ∷ 22 ∷ []) $ free1 ! $ move ! (19 ∷ 20 ∷ []) $ free1 ! $ move ! (17 ∷ 18 ∷ []) $ free1 ! $ move ! (15 ∷ 16 ∷ []) $ free1 ! $ move ! (13 ∷ 14 ∷ []) $ free1 ! $ move ! (11 ∷ 12 ∷ []) $ free1 ! $ move ! (9 ∷ 10 ∷ []) $ free1 ! $ move ! (7 ∷ 8 ∷ []) $ free1 ! $ move ! (5 ∷ 6 ∷ []) $ free1 ! $ free0 ! $
         by ! (exits r u m e e′ is-r))))))))))))))))))))))

@@ -8,12 +8,12 @@ use Rattle.compact_iterator.proofs.iter.Tie as tie
 check-range-requires : tie.Need-check-range-requires
 check-range-requires c κs = search needs
 
-enum-known-e : tie.Need-enum-known-e
-enum-known-e c = search needs
+enum-known-checked : tie.Need-enum-known-checked
+enum-known-checked c = search needs
 
 returns : tie.Need-returns
 unfolding iterRule
-returns c = range-refused _ _ _ _ (c .before .before .before .check-range .ensures) (c .before .e .given .1)
+returns c = range-refused _ _ _ _ (c .before .before .before .check-range .ensures) (c .before .checked .given .1)
 
 enum-told : tie.Need-enum-told
 enum-told c = search needs
@@ -23,4 +23,5 @@ unfolding iterRule
 returns-2 c = range-good _ _ _ _ (c .before .before .check-range .ensures) (c .enum-told .given .1)
 
 pub iter-spec : {M : Type 1} → statement M
-iter-spec = tie.close (tie.spec check-range-requires enum-known-e returns enum-told returns-2)
+iter-spec =
+    tie.close (tie.spec check-range-requires enum-known-checked returns enum-told returns-2)

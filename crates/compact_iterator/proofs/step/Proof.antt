@@ -26,13 +26,13 @@ enum-known-e c = search needs
 
 returns-2 : tie.Need-returns-2
 unfolding stepRule
-returns-2 c = 
+returns-2 c =
     let from = c .before .before .before .before .before .before .before .before .before .before .args .c in
     rw (lt-leb (from .end) (from .next) (omega (arith, c .before .before .before .before .if1 .left)), sym (c .before .before .before .get .ensures) ∙ ap answerOf (c .before .v .given .1))
 
 returns-3 : tie.Need-returns-3
 unfolding stepRule
-returns-3 c = 
+returns-3 c =
     let from = c .before .before .before .before .before .before .before .before .before .before .args .c in
     rw (lt-leb (from .end) (from .next) (omega (arith, c .before .before .before .before .if1 .left)), sym (c .before .before .before .get .ensures) ∙ ap answerOf (c .before .e .given .1))
 
