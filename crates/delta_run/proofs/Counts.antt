@@ -8,9 +8,9 @@ use Rattle.rules.specs.declared.Got.{Got}
 use Rattle.rules.specs.declared.Refusal.{Refusal}
 use Rattle.rules.specs.Words.{Answer, value, refused, Facts}
 use Rattle.rules.specs.Record.{widthTests}
-use Rattle.rules.specs.Reading.{runCountRule}
+use Rattle.rules.specs.Reading.{runCountRule, runValueRule}
 use Rattle.rules.specs.Refusals.{numberOf, answerOf}
-use Rattle.laws.proofs.Tests.{if-case}
+use Rattle.laws.proofs.Tests.{left, if-case}
 
 -- a value is no refusal
 not-both : {P : Type 0} (n e : ℕ) → value n ≡ refused e → P
@@ -35,6 +35,9 @@ module _ (bytes : List ℕ) (w : ℕ) where
   pub count-given : {r : Got} {n : ℕ} → answerOf r ≡ runCountRule bytes w → r ≡ Got.Value n → Facts (widthTests 1 w) × (n ≡ length bytes / w)
   count-given {n = n} q e = value-rule n (sym (ap answerOf e) ∙ q)
 
-  -- it is refused where the width is not
-  pub count-refused : {r : Got} {e : Refusal} → answerOf r ≡ runCountRule bytes w → r ≡ Got.Refused e → Facts (widthTests 1 w) → ⊥
-  count-refused {e = e} q f = refused-rule (numberOf e) (sym (ap answerOf f) ∙ q)
+  -- a refused count is the answer of every value
+  pub value-refused : {r : Got} {e : Refusal} (base i : ℕ) → answerOf r ≡ runCountRule bytes w → r ≡ Got.Refused e → answerOf r ≡ runValueRule bytes base w i
+  unfolding runCountRule runValueRule
+  value-refused {e = e} base i q f =
+      let never = refused-rule (numberOf e) (sym (ap answerOf f) ∙ q) in
+      q ∙ left _ _ _ never ∙ sym (left _ _ _ never)

@@ -60,8 +60,9 @@ pub fn count_of(bytes: &[u8], width: u64) -> Got
 pub fn value_of(bytes: &[u8], base: u64, width: u64, i: u64) -> Got
     ensures { λ r. ⌜ answerOf r ≡ runValueRule (now (bytes .entry)) base width i ⌝ }
 {
-    let Got::Value(count) = count_of(bytes, width) else {
-        return Got::Refused(Refusal::Damaged);
+    let counted = count_of(bytes, width);
+    let Got::Value(count) = counted else {
+        return counted;
     };
     if count <= i {
         return Got::Refused(Refusal::Position);
