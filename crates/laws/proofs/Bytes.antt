@@ -1,4 +1,4 @@
--- Deltas in the data bytes: what a store keeps, and what it puts there.
+-- Deltas in the data bytes: what a store keeps, what it puts there, and how many fit a room.
 use Prim.Native.Nat.{ℕ, zero, suc, _+_, _*_, _/_, _%_, _^_, _≤_, _<_}
 use mathlib.Core.List.{List, [], _∷_}
 use mathlib.Core.Path.{_≡_, refl, _∙_}
