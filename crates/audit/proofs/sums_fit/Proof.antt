@@ -1,0 +1,84 @@
+use Prim.Native.Nat.{ℕ, _+_, _-_, _*_, _^_, _≤_, _<_}
+use mathlib.Core.Path.{sym}
+use native.Mathlib.Omega.{arith}
+use denote.Ref.{now}
+use borrow.Author.Count.{below-more}
+use borrow.Author.Needs.{needs}
+use Rattle.rules.specs.Push.{deltaAt}
+use Rattle.laws.proofs.Tests.{all-held}
+use Rattle.laws.proofs.Bytes.{delta-room}
+use Rattle.audit.proofs.Letters.{one-over}
+use Rattle.audit.proofs.sums_fit.Statement.{statement}
+use Rattle.audit.proofs.sums_fit.Tie as tie
+use Rattle.audit.proofs.sums_fit.Reads as reads
+use Rattle.audit.proofs.sums_fit.Lts as lts
+use Rattle.delta.proofs.delta_at.Reads as delta-at-reads
+
+abbrev Inv-deltas : tie.InvT-deltas
+Inv-deltas bytes base offset d w room i₀ i = (i ≤ d) × ((j : ℕ) → j < i → base + deltaAt bytes (offset + j * w) w < 2 ^ 64)
+
+abbrev μ-deltas : tie.MeasureT-deltas
+μ-deltas bytes base offset d w room i₀ i = d - i
+
+-- src/lib.rt:196:16
+sub-room : tie.Need-sub-room Inv-deltas μ-deltas
+sub-room c = search needs
+
+-- src/lib.rt:198:5
+deltas-holds : tie.Need-deltas-holds Inv-deltas μ-deltas
+deltas-holds c = (omega arith, λ j l. absurd (omega arith))
+
+-- src/lib.rt:202:51
+mul-delta-at : tie.Need-mul-delta-at Inv-deltas μ-deltas
+mul-delta-at c = omega (arith, delta-room (c .before .before .before .args .d) (c .before .before .before .args .w) (c .before .deltas .i) (c .if1 .left))
+
+-- src/lib.rt:202:42
+add-delta-at : tie.Need-add-delta-at Inv-deltas μ-deltas
+add-delta-at c = omega (arith, delta-room (c .before .before .before .args .d) (c .before .before .before .args .w) (c .before .deltas .i) (c .if1 .left))
+
+-- src/lib.rt:202:19
+delta-at-requires : tie.Need-delta-at-requires Inv-deltas μ-deltas
+delta-at-requires c κs = omega (arith, delta-room (c .before .before .before .args .d) (c .before .before .before .args .w) (c .before .deltas .i) (c .if1 .left))
+
+-- src/lib.rt:205:9
+add-i : tie.Need-add-i Inv-deltas μ-deltas
+add-i c = search needs
+
+-- src/lib.rt:198:5
+deltas-less : tie.Need-deltas-less Inv-deltas μ-deltas
+deltas-less c = search needs
+
+-- src/lib.rt:198:5
+deltas-again : tie.Need-deltas-again Inv-deltas μ-deltas
+deltas-again c = 
+    let a = c .before .before .before .before .before .args in
+    (omega arith, below-more (λ (j : ℕ). a .base + deltaAt (now (a .bytes)) (a .offset + j * a .w) (a .w) < 2 ^ 64) (c .before .before .before .deltas .i) (c .before .before .before .deltas .inv .1) (omega (arith, c .before .delta-at .ensures)))
+
+-- src/lib.rt:192:1
+returns : tie.Need-returns Inv-deltas μ-deltas
+returns c = 
+    let a = c .before .before .before .args in
+    sym (all-held (a .d) (λ (i : ℕ). a .base + deltaAt (now (a .bytes)) (a .offset + i * a .w) (a .w)) (2 ^ 64) (λ i l. c .before .deltas .inv .1 i (omega arith)))
+
+-- src/lib.rt:192:1
+returns-2 : tie.Need-returns-2 Inv-deltas μ-deltas
+returns-2 c = 
+    let a = c .before .before .before .before .before .args in
+    sym (one-over (a .d) (λ (i : ℕ). a .base + deltaAt (now (a .bytes)) (a .offset + i * a .w) (a .w)) (2 ^ 64) (c .before .before .before .deltas .i) (omega arith) (omega (arith, c .before .delta-at .ensures)))
+
+pub sums-fit-spec : {M : Type 1} → statement M
+sums-fit-spec =
+    tie.close
+    (tie.spec
+    Inv-deltas
+    μ-deltas
+    sub-room
+    deltas-holds
+    mul-delta-at
+    add-delta-at
+    delta-at-requires
+    add-i
+    deltas-less
+    deltas-again
+    returns
+    returns-2)
