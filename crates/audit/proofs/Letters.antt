@@ -2,14 +2,14 @@
 use Prim.Native.Nat.{ℕ, _+_, _-_, _*_, _/_, _%_, _^_, _≤_, _<_}
 use mathlib.Core.Bool.{true, false, _&&_}
 use mathlib.Core.List.{List, _∷_}
-use mathlib.Core.Path.{_≡_, sym, _∙_}
+use mathlib.Core.Path.{_≡_, sym, ap, _∙_}
 use native.Mathlib.Omega.{arith}
 use native.Mathlib.Nat.{div-add-mod', mul-mod-left, mul-div-cancel, pow-le-pow-right, lt-of-lt-of-le, one-le-pow}
 use lib.Dec.{ltb, leb, eqb, lit<}
 use lib.ListN.{length, getD}
 use borrow.Author.Tests.{ltb-true, ltb-false, leb-true, eqb-true, lt-ltb, le-leb, eq-eqb}
 use Rattle.rules.specs.Words.{Test, _≡?_, _⇒?_, holds, when-all, allBelow}
-use Rattle.rules.specs.Record.{Index, minimumOf, lengthOf, segmentsOf, widthsOf, usedOf, start, base, edge, mark}
+use Rattle.rules.specs.Record.{Index, minimumOf, lengthOf, segmentsOf, widthsOf, usedOf, start, base, offset, edge, mark, widthTests}
 use Rattle.rules.specs.Push.{byteWidth, deltaAt}
 use Rattle.rules.specs.Audit.{testsE, testsF}
 use Rattle.audit.specs.Letters.{ruleB, ruleC, ruleD, ruleE, ruleF}
@@ -25,6 +25,10 @@ first-fails t ts e = rw (e, when-all)
 -- a segment begins at its start
 edge-at : (x : Index) (k : ℕ) → k < segmentsOf x → edge x k ≡ start x k
 edge-at x k h = rw (lt-ltb k (segmentsOf x) h)
+
+-- and its bytes at its offset
+mark-at : (x : Index) (k : ℕ) → k < segmentsOf x → mark x k ≡ offset x k
+mark-at x k h = rw (lt-ltb k (segmentsOf x) h)
 
 -- B where the first start is not 0
 pub b-zero : (x : Index) (k : ℕ) → k < segmentsOf x → holds (k ≡? 0 ⇒? start x k ≡? 0) ≡ false → when-all (ruleB x k) true false ≡ false
@@ -62,17 +66,13 @@ b-room x k e =
     (λ t. let l = f .1 .0 (ltb-true (k + 1) (segmentsOf x) t) in omega arith)
     (λ t. let l = f .1 .1 .0 (ltb-false (k + 1) (segmentsOf x) t) in rw t l)
 
--- C of a segment with a width
+-- C of a segment with a width: it is m to 8
 module _ (x : Index) (k w : ℕ) (has : k < widthsOf x) where
-  pub c-same : leb (minimumOf x) w && leb w 8 ≡ when-all (ruleC x k w) true false
+  pub c-same : when-all (widthTests (minimumOf x) w) true false ≡ when-all (ruleC x k w) true false
   c-same =
       same-test _ _
-      (λ t. let b = both (leb (minimumOf x) w) (leb w 8) t in
-      let l = leb-true (minimumOf x) w (b .0) in let m = leb-true w 8 (b .1) in taken (ruleC x k w) true false (omega arith))
-      (λ t. let f = facts-of (ruleC x k w) t in rw (le-leb (minimumOf x) w (f .0 has), le-leb w 8 (f .1 .0 has)))
-
-  pub c-width : when-all (ruleC x k w) true false ≡ true → (minimumOf x ≤ w) × (w ≤ 8)
-  c-width e = let f = facts-of (ruleC x k w) e in (f .0 has, f .1 .0 has)
+      (λ t. let f = facts-of (widthTests (minimumOf x) w) t in taken (ruleC x k w) true false (omega arith))
+      (λ t. let f = facts-of (ruleC x k w) t in taken (widthTests (minimumOf x) w) true false (f .0 has, (f .1 .0 has, tt)))
 
 -- D: the next base is far enough exactly where the gap takes more than w bytes
 module _ (x : Index) (k w : ℕ) (more : k + 1 < segmentsOf x) where
@@ -132,8 +132,8 @@ module _ (x : Index) (k d w at end : ℕ) (here : at ≡ mark x k) (there : end 
       ∙ e-tests
 
   -- without one
-  pub e-bare : widthsOf x ≤ k → holds (k ≡? 0 ⇒? at ≡? 0) ≡ true → eqb at (usedOf x) && eqb d 0 ≡ when-all (ruleE x k d w) true false
-  e-bare none z =
+  pub e-without : widthsOf x ≤ k → holds (k ≡? 0 ⇒? at ≡? 0) ≡ true → eqb at (usedOf x) && eqb d 0 ≡ when-all (ruleE x k d w) true false
+  e-without none z =
       let ts = testsE (widthsOf x) (usedOf x) k d w at end in
       let u = usedOf x in
       same-test _ _
@@ -145,22 +145,25 @@ module _ (x : Index) (k d w at end : ℕ) (here : at ≡ mark x k) (there : end 
       ∙ e-tests
 
 -- E keeps the deltas within used
-pub e-room : (x : Index) (k d w : ℕ) → k < widthsOf x → when-all (ruleE x k d w) true false ≡ true → mark x k + d * w ≤ usedOf x
-e-room x k d w has e = let f = facts-of (ruleE x k d w) e in let a = f .1 .0 has in let b = f .1 .1 .0 has in omega arith
+pub e-room : (x : Index) (k d w : ℕ) → k < segmentsOf x → k < widthsOf x → when-all (ruleE x k d w) true false ≡ true → offset x k + d * w ≤ usedOf x
+e-room x k d w inside has e =
+    let f = facts-of (ruleE x k d w) e in
+    let a = f .1 .0 has in let b = f .1 .1 .0 has in let here = mark-at x k inside in omega arith
 
--- F of a segment whose deltas begin at `at`: the sums of its base with each delta
-module _ (x : Index) (k d w at : ℕ) (here : at ≡ mark x k) where
-  -- where any delta of this width fits
-  pub f-sure : at + d * w ≤ length (x .bytes) → ((i : ℕ) → i < length (x .bytes) → getD (x .bytes) i 0 < 256) → base x k + 256 ^ w ≤ 2 ^ 64
-      → when-all (ruleF x k d w) true false ≡ true
-  f-sure room small h =
-      rw (← here) (taken (testsF (widthsOf x) k d (base x k) w at (x .bytes)) true false ((λ l i g.
-      let r = delta-room d w i g in
-      let e = delta-below (x .bytes) (length (x .bytes)) w (at + i * w) small (omega arith) in omega arith), tt))
+-- where any delta of this width fits, all d do
+pub f-sure : (bytes : List ℕ) (b at d w : ℕ) → at + d * w ≤ length bytes → ((i : ℕ) → i < length bytes → getD bytes i 0 < 256) → b + 256 ^ w ≤ 2 ^ 64
+    → allBelow d (λ i. b + deltaAt bytes (at + i * w) w) (2 ^ 64) ≡ true
+f-sure bytes b at d w room small h =
+    all-held d (λ (i : ℕ). b + deltaAt bytes (at + i * w) w) (2 ^ 64) (λ i l.
+    let r = delta-room d w i l in
+    let e = delta-below bytes (length bytes) w (at + i * w) small (omega arith) in omega arith)
 
-  pub f-same : k < widthsOf x → allBelow d (λ i. base x k + deltaAt (x .bytes) (at + i * w) w) (2 ^ 64) ≡ when-all (ruleF x k d w) true false
-  f-same has =
-      let sum : ℕ → ℕ = λ i. base x k + deltaAt (x .bytes) (mark x k + i * w) w in
-      rw here (same-test _ _
-      (λ t. taken (ruleF x k d w) true false ((λ l. all-fact d sum (2 ^ 64) t), tt))
-      (λ t. all-held d sum (2 ^ 64) (facts-of (ruleF x k d w) t .0 has)))
+-- F of a segment with a width: all its sums are below 2^64
+pub f-same : (x : Index) (k d w : ℕ) → k < segmentsOf x → k < widthsOf x
+    → allBelow d (λ i. base x k + deltaAt (x .bytes) (offset x k + i * w) w) (2 ^ 64) ≡ when-all (ruleF x k d w) true false
+f-same x k d w inside has =
+    let sum : ℕ → ℕ = λ i. base x k + deltaAt (x .bytes) (mark x k + i * w) w in
+    ap (λ (at : ℕ). allBelow d (λ i. base x k + deltaAt (x .bytes) (at + i * w) w) (2 ^ 64)) (sym (mark-at x k inside))
+    ∙ same-test _ _
+    (λ t. taken (ruleF x k d w) true false ((λ l. all-fact d sum (2 ^ 64) t), tt))
+    (λ t. all-held d sum (2 ^ 64) (facts-of (ruleF x k d w) t .0 has))

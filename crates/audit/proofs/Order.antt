@@ -1,17 +1,25 @@
 -- The order of the audit: letter after letter in a segment, segment after segment in the index.
 use Prim.Native.Nat.{ℕ, suc, _+_, _-_, _≤_, _<_}
-use mathlib.Core.Bool.{true, false}
+use mathlib.Core.Bool.{Bool, true, false, not}
 use mathlib.Core.List.{List, [], _∷_}
 use mathlib.Core.Path.{_≡_, refl, sym, ap, _∙_}
 use native.Mathlib.Omega.{arith}
 use native.Mathlib.Numerals.{add-one}
+use borrow.Author.Tests.{not-true, not-false}
 use Rattle.rules.specs.declared.Letter as code-letter
 use Rattle.rules.specs.declared.Verdict as code-verdict
 use Rattle.rules.specs.Words.{when-all}
 use Rattle.rules.specs.Record.{Index, segmentsOf, widthsOf, width, countsHold}
 use Rattle.rules.specs.Audit.{A, E, F, Verdict, wellFormed, flaw, deltas, Rule, _by_, rulesOf, firstFlaw, auditFrom, auditRule, letterOf, verdictOf}
-use Rattle.audit.specs.Letters.{ruleB, ruleC, ruleD, ruleE, ruleF, rulesPastB}
+use Rattle.audit.specs.Letters.{ruleB, ruleC, ruleD, ruleE, ruleF, rulesCtoF}
 use Rattle.laws.proofs.Tests.{taken}
+
+-- a test in code that did not stop it, and one that did, say what the rule says
+pub passed : {a b : Bool} → a ≡ b → not a ≡ false → b ≡ true
+passed e n = sym e ∙ not-false _ n
+
+pub failed : {a b : Bool} → a ≡ b → not a ≡ true → b ≡ false
+failed e n = sym e ∙ not-true _ n
 
 -- no rule is left
 pub flaw-none : (k : ℕ) → firstFlaw k [] ≡ wellFormed
@@ -30,19 +38,19 @@ flaw-here k r rs e = rw (e, firstFlaw)
 
 -- where B holds, the verdict on C to F, at the segment's own deltas and width, is the segment's
 pub past-b : (x : Index) (k d w : ℕ) → when-all (ruleB x k) true false ≡ true → d ≡ deltas x k → w ≡ width x k
-    → firstFlaw k (rulesPastB x k d w) ≡ firstFlaw k (rulesOf x k)
+    → firstFlaw k (rulesCtoF x k d w) ≡ firstFlaw k (rulesOf x k)
 past-b x k d w b ed ew = rw (ed, ew) (sym (flaw-next k _ _ b))
 
 -- a last segment without a width has E alone to keep
 module _ (x : Index) (k d w : ℕ) (none : widthsOf x ≤ k) (last : segmentsOf x ≤ k + 1) where
-  bare : firstFlaw k (rulesPastB x k d w) ≡ firstFlaw k (E by (ruleE x k d w) ∷ F by (ruleF x k d w) ∷ [])
-  bare = flaw-next k _ _ (taken (ruleC x k w) true false (omega arith)) ∙ flaw-next k _ _ (taken (ruleD x k w) true false (omega arith))
+  e-alone : firstFlaw k (rulesCtoF x k d w) ≡ firstFlaw k (E by (ruleE x k d w) ∷ F by (ruleF x k d w) ∷ [])
+  e-alone = flaw-next k _ _ (taken (ruleC x k w) true false (omega arith)) ∙ flaw-next k _ _ (taken (ruleD x k w) true false (omega arith))
 
-  pub bare-flaw : when-all (ruleE x k d w) true false ≡ false → firstFlaw k (rulesPastB x k d w) ≡ flaw E k
-  bare-flaw e = bare ∙ flaw-here k _ _ e
+  pub without-flaw : when-all (ruleE x k d w) true false ≡ false → firstFlaw k (rulesCtoF x k d w) ≡ flaw E k
+  without-flaw e = e-alone ∙ flaw-here k _ _ e
 
-  pub bare-none : when-all (ruleE x k d w) true false ≡ true → firstFlaw k (rulesPastB x k d w) ≡ wellFormed
-  bare-none e = bare ∙ flaw-next k _ _ e ∙ flaw-next k _ _ (taken (ruleF x k d w) true false ((λ h. absurd (omega arith)), tt)) ∙ flaw-none k
+  pub without-none : when-all (ruleE x k d w) true false ≡ true → firstFlaw k (rulesCtoF x k d w) ≡ wellFormed
+  without-none e = e-alone ∙ flaw-next k _ _ e ∙ flaw-next k _ _ (taken (ruleF x k d w) true false ((λ h. absurd (omega arith)), tt)) ∙ flaw-none k
 
 -- counts come first
 pub audit-counts : (x : Index) → countsHold x ≡ false → auditRule x ≡ flaw A 0

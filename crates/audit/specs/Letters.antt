@@ -26,5 +26,5 @@ abbrev pub ruleF : Index → (k d w : ℕ) → List Test
 ruleF x k d w = testsF (widthsOf x) k d (base x k) w (mark x k) (x .bytes)
 
 -- C to F of segment k with d deltas of width w, in order
-abbrev pub rulesPastB : Index → (k d w : ℕ) → List Rule
-rulesPastB x k d w = C by (ruleC x k w) ∷ D by (ruleD x k w) ∷ E by (ruleE x k d w) ∷ F by (ruleF x k d w) ∷ []
+abbrev pub rulesCtoF : Index → (k d w : ℕ) → List Rule
+rulesCtoF x k d w = C by (ruleC x k w) ∷ D by (ruleD x k w) ∷ E by (ruleE x k d w) ∷ F by (ruleF x k d w) ∷ []

@@ -8,14 +8,14 @@ ghost use mathlib.Core.Bool.{true, false};
 ghost use mathlib.Core.List.{[]};
 ghost use Prim.Native.Nat.{ℕ, _≤_, _<_, _+_, _*_, _^_};
 ghost use lib.ListN.{length};
-ghost use Rattle.rules.specs.Words.{holds, when-all, allBelow, Facts, _≡?_, _⇒?_};
-ghost use Rattle.rules.specs.Record.{index, edge, mark};
+ghost use Rattle.rules.specs.Words.{_≡?_, _⇒?_, holds, allBelow, when-all, Facts};
+ghost use Rattle.rules.specs.Record.{index, edge, widthTests};
 ghost use Rattle.rules.specs.Push.{deltaAt};
 ghost use Rattle.rules.specs.Audit.{deltas, firstFlaw, rulesOf, auditRule, verdictOf};
 ghost use Rattle.laws.specs.Orders.{ordersOf};
-ghost use Rattle.audit.specs.Letters.{ruleB, ruleC, ruleD, ruleE, ruleF, rulesPastB};
+ghost use Rattle.audit.specs.Letters.{ruleB, ruleD, ruleE, rulesCtoF};
 
-// Counts (A) first, with segment 0; then segments in order, rules B to F within each.
+// The audit: counts (A) first with segment 0, then segments in order, rules B to F within each.
 pub fn audit(
     s: State,
     starts: &[u64],
@@ -59,16 +59,16 @@ fn audit_segment(
     }
     let d = deltas_of(s, starts, k);
     let Width::Of(w) = tables::width_of(s, widths, k) else {
-        if !rule_e_bare(s, offsets, k, d) {
+        if !rule_e_without_width(s, offsets, k, d) {
             return Verdict::Flaw(Letter::E, k);
         }
         return Verdict::WellFormed;
     };
-    audit_deltas(s, bases, offsets, bytes, k, d, w as u64)
+    audit_with_width(s, bases, offsets, bytes, k, d, w as u64)
 }
 
 // The first rule, C to F, that segment k breaks with its d deltas of width w.
-fn audit_deltas(
+fn audit_with_width(
     s: State,
     bases: &[u64],
     offsets: &[u64],
@@ -78,9 +78,9 @@ fn audit_deltas(
     w: u64,
 ) -> Verdict
     requires { ⌜ (k < s .widths) × (s .widths ≤ s .segments) × (s .segments ≤ length (now bases)) × (s .segments ≤ length (now offsets)) × (s .used ≤ length (now bytes)) × (1 ≤ s .minimum) ⌝ }
-    ensures { λ r. ⌜ verdictOf r ≡ firstFlaw k (rulesPastB (index s [] (now (bases .entry)) (now (offsets .entry)) [] (now (bytes .entry))) k d w) ⌝ }
+    ensures { λ r. ⌜ verdictOf r ≡ firstFlaw k (rulesCtoF (index s [] (now (bases .entry)) (now (offsets .entry)) [] (now (bytes .entry))) k d w) ⌝ }
 {
-    if !rule_c(s, k, w) {
+    if !rule_c(s.minimum, w) {
         return Verdict::Flaw(Letter::C, k);
     }
     if !rule_d(s, bases, k, w) {
@@ -89,7 +89,7 @@ fn audit_deltas(
     if !rule_e(s, offsets, k, d, w) {
         return Verdict::Flaw(Letter::E, k);
     }
-    if !rule_f(s, bases, offsets, bytes, k, d, w) {
+    if !rule_f(bytes, bases[k as usize], offsets[k as usize], d, w) {
         return Verdict::Flaw(Letter::F, k);
     }
     Verdict::WellFormed
@@ -114,15 +114,14 @@ fn rule_b(s: State, starts: &[u64], k: u64) -> bool
     2 <= next - start
 }
 
-// C: a width, if present, is m to 8.
-fn rule_c(s: State, k: u64, w: u64) -> bool
-    requires { ⌜ k < s .widths ⌝ }
-    ensures { λ r. ⌜ r ≡ when-all (ruleC (index s [] [] [] [] []) k w) true false ⌝ }
+// C: a width is m to 8.
+fn rule_c(minimum: u64, w: u64) -> bool
+    ensures { λ r. ⌜ r ≡ when-all (widthTests minimum w) true false ⌝ }
 {
-    (s.minimum <= w) & (w <= 8)
+    (minimum <= w) & (w <= 8)
 }
 
-// D: the next base is at least base + 256^width, so the gap between them takes more than `width` bytes.
+// D: the next base is at least base + 256^width, which is to say that the gap between them takes more than `width` bytes.
 fn rule_d(s: State, bases: &[u64], k: u64, w: u64) -> bool
     requires { ⌜ (k < s .segments) × (s .segments ≤ length (now bases)) × (1 ≤ w) ⌝ }
     ensures { λ r. ⌜ r ≡ when-all (ruleD (index s [] (now (bases .entry)) [] [] []) k w) true false ⌝ }
@@ -138,13 +137,15 @@ fn rule_d(s: State, bases: &[u64], k: u64, w: u64) -> bool
     w < delta::byte_width(next - base)
 }
 
-// E: the first offset is 0; the deltas times width, added to the offset, give the next offset or used, never above used; there is at least one.
+// E of a segment with a width: the first offset is 0; the deltas times width, added to the offset, give the next offset, or used, and never more than used; there is at least one delta.
 fn rule_e(s: State, offsets: &[u64], k: u64, d: u64, w: u64) -> bool
     requires { ⌜ (k < s .widths) × (s .widths ≤ s .segments) × (s .segments ≤ length (now offsets)) × (1 ≤ w) ⌝ }
     ensures { λ r. ⌜ r ≡ when-all (ruleE (index s [] [] (now (offsets .entry)) [] []) k d w) true false ⌝ }
 {
-    let offset = tables::entry_or(offsets, s.segments, k, s.used);
-    let end = tables::entry_or(offsets, s.segments, k + 1, s.used);
+    let segments = s.segments;
+    let used = s.used;
+    let offset = tables::entry_or(offsets, segments, k, used);
+    let end = tables::entry_or(offsets, segments, k + 1, used);
     if !first_is_zero(k, offset) {
         return false;
     }
@@ -152,54 +153,37 @@ fn rule_e(s: State, offsets: &[u64], k: u64, d: u64, w: u64) -> bool
         return false;
     }
     let count = end - offset;
-    (count / w == d) & (count % w == 0) & (end <= s.used) & (1 <= d)
+    (count / w == d) & (count % w == 0) & (end <= used) & (1 <= d)
 }
 
-// E of a last segment without a width: its offset is used, and it has no deltas.
-fn rule_e_bare(s: State, offsets: &[u64], k: u64, d: u64) -> bool
+// E of a last segment without a width: the first offset is 0; its offset is used; it has no deltas.
+fn rule_e_without_width(s: State, offsets: &[u64], k: u64, d: u64) -> bool
     requires { ⌜ (k < s .segments) × (s .widths ≤ k) × (s .segments ≤ length (now offsets)) ⌝ }
     ensures { λ r. ⌜ ((w : ℕ) → r ≡ when-all (ruleE (index s [] [] (now (offsets .entry)) [] []) k d w) true false) ⌝ }
 {
-    let offset = tables::entry_or(offsets, s.segments, k, s.used);
+    let used = s.used;
+    let offset = tables::entry_or(offsets, s.segments, k, used);
     if !first_is_zero(k, offset) {
         return false;
     }
-    (offset == s.used) & (d == 0)
+    (offset == used) & (d == 0)
 }
 
-// F: every base + delta is at most 2^64 - 1. Where any delta of this width would fit, none is read.
-fn rule_f(
-    s: State,
-    bases: &[u64],
-    offsets: &[u64],
-    bytes: &[u8],
-    k: u64,
-    d: u64,
-    w: u64,
-) -> bool
-    requires { ⌜ (k < s .widths) × (s .widths ≤ s .segments) × (s .segments ≤ length (now bases)) × (s .segments ≤ length (now offsets)) × (1 ≤ w) × (w ≤ 8) × (mark (index s [] [] (now offsets) [] []) k + d * w ≤ length (now bytes)) ⌝ }
-    ensures { λ r. ⌜ r ≡ when-all (ruleF (index s [] (now (bases .entry)) (now (offsets .entry)) [] (now (bytes .entry))) k d w) true false ⌝ }
-{
-    let base = bases[k as usize];
-    let offset = tables::entry_or(offsets, s.segments, k, s.used);
-    if delta::all_fit(base, w) {
-        return true;
-    }
-    sums_fit(bytes, base, offset, d, w)
-}
-
-// Whether the base and each of the d deltas from `offset` on make a sum of at most 2^64 - 1.
-fn sums_fit(bytes: &[u8], base: u64, offset: u64, d: u64, w: u64) -> bool
+// F: every base + delta is at most 2^64 - 1. Where any delta of this width would do, none is read.
+fn rule_f(bytes: &[u8], base: u64, offset: u64, d: u64, w: u64) -> bool
     requires { ⌜ (1 ≤ w) × (w ≤ 8) × (offset + d * w ≤ length (now bytes)) ⌝ }
     ensures { λ r. ⌜ r ≡ allBelow d (λ i. base + deltaAt (now (bytes .entry)) (offset + i * w) w) (2 ^ 64) ⌝ }
 {
-    let room = 18446744073709551615 - base;
+    if delta::all_fit(base, w) {
+        return true;
+    }
+    let most = 18446744073709551615 - base;
     let mut i: u64 = 0;
     'deltas: loop {
         if d <= i {
             break 'deltas true;
         }
-        if room < delta::delta_at(bytes, offset + i * w, w) {
+        if most < delta::delta_at(bytes, offset + i * w, w) {
             break 'deltas false;
         }
         i += 1;
@@ -211,12 +195,14 @@ fn deltas_of(s: State, starts: &[u64], k: u64) -> u64
     requires { ⌜ (k < s .segments) × (s .segments ≤ length (now starts)) × (edge (index s (now starts) [] [] [] []) k < edge (index s (now starts) [] [] [] []) (k + 1)) ⌝ }
     ensures { λ r. ⌜ r ≡ deltas (index s (now (starts .entry)) [] [] [] []) k ⌝ }
 {
-    let start = tables::entry_or(starts, s.segments, k, s.length);
-    let end = tables::entry_or(starts, s.segments, k + 1, s.length);
+    let segments = s.segments;
+    let length = s.length;
+    let start = tables::entry_or(starts, segments, k, length);
+    let end = tables::entry_or(starts, segments, k + 1, length);
     end - start - 1
 }
 
-// The first segment's entry is 0.
+// Whether the entry is 0 where segment k is the first.
 fn first_is_zero(k: u64, entry: u64) -> bool
     ensures { λ r. ⌜ r ≡ holds (k ≡? 0 ⇒? entry ≡? 0) ⌝ }
 {

@@ -1,3 +1,5 @@
+use mathlib.Core.Path.{sym}
+use Rattle.audit.proofs.Order.{passed, failed}
 use mathlib.Core.List.{[]}
 use mathlib.Core.Path.{sym, _∙_}
 use native.Mathlib.Omega.{arith}
@@ -28,7 +30,7 @@ first-is-zero-requires c κs = search needs
 returns : tie.Need-returns
 returns c = 
     let a = c .before .before .before .before .args in
-    sym (b-zero (index (a .s) (now (a .starts)) [] [] [] []) (a .k) (omega arith) (sym (c .before .first-is-zero .ensures) ∙ not-true _ (c .if1 .taken)))
+    sym (b-zero (index (a .s) (now (a .starts)) [] [] [] []) (a .k) (omega arith) (failed (c .before .first-is-zero .ensures) (c .if1 .taken)))
 
 -- src/lib.rt:107:22
 add-if2 : tie.Need-add-if2
@@ -38,7 +40,7 @@ add-if2 c = search needs
 returns-2 : tie.Need-returns-2
 returns-2 c = 
     let a = c .before .before .before .before .before .before .before .args in
-    b-last (index (a .s) (now (a .starts)) [] [] [] []) (a .k) (omega arith) (sym (c .before .before .before .before .first-is-zero .ensures) ∙ not-false _ (c .before .before .before .if1 .left)) (c .before .if2 .taken)
+    b-last (index (a .s) (now (a .starts)) [] [] [] []) (a .k) (omega arith) (passed (c .before .before .before .before .first-is-zero .ensures) (c .before .before .before .if1 .left)) (c .before .if2 .taken)
 
 -- src/lib.rt:110:24
 add-next : tie.Need-add-next
@@ -56,13 +58,13 @@ shared-slice-read-next c = search needs
 returns-3 : tie.Need-returns-3
 returns-3 c = 
     let a = c .before .before .before .before .before .before .before .before .args in
-    sym (b-back (index (a .s) (now (a .starts)) [] [] [] []) (a .k) (omega arith) (sym (c .before .before .before .before .before .first-is-zero .ensures) ∙ not-false _ (c .before .before .before .before .if1 .left)) (c .before .before .if2 .left) (c .if3 .taken))
+    sym (b-back (index (a .s) (now (a .starts)) [] [] [] []) (a .k) (omega arith) (passed (c .before .before .before .before .before .first-is-zero .ensures) (c .before .before .before .before .if1 .left)) (c .before .before .if2 .left) (c .if3 .taken))
 
 -- src/lib.rt:99:1
 returns-4 : tie.Need-returns-4
 returns-4 c = 
     let a = c .before .before .before .before .before .before .before .before .args in
-    b-next (index (a .s) (now (a .starts)) [] [] [] []) (a .k) (omega arith) (sym (c .before .before .before .before .before .first-is-zero .ensures) ∙ not-false _ (c .before .before .before .before .if1 .left)) (c .before .before .if2 .left) (c .if3 .left)
+    b-next (index (a .s) (now (a .starts)) [] [] [] []) (a .k) (omega arith) (passed (c .before .before .before .before .before .first-is-zero .ensures) (c .before .before .before .before .if1 .left)) (c .before .before .if2 .left) (c .if3 .left)
 
 pub rule-b-spec : {M : Type 1} → statement M
 rule-b-spec =

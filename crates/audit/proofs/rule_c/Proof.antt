@@ -1,7 +1,9 @@
-use mathlib.Core.List.{[]}
+use mathlib.Core.Path.{sym}
 use native.Mathlib.Omega.{arith}
-use Rattle.rules.specs.Record.{index}
-use Rattle.audit.proofs.Letters.{c-same}
+use Rattle.laws.proofs.Tests.{same-test, both, taken, facts-of}
+use Rattle.rules.specs.Record.{widthTests}
+use lib.Dec.{leb}
+use borrow.Author.Tests.{leb-true, le-leb}
 use Rattle.audit.proofs.rule_c.Statement.{statement}
 use Rattle.audit.proofs.rule_c.Tie as tie
 use Rattle.audit.proofs.rule_c.Reads as reads
@@ -10,8 +12,12 @@ use Rattle.audit.proofs.rule_c.Lts as lts
 -- src/lib.rt:118:1
 returns : tie.Need-returns
 returns c = 
-    let a = c .before .args in
-    c-same (index (a .s) [] [] [] [] []) (a .k) (a .w) (omega arith)
+    let a = c .args in
+    same-test _ _
+    (λ t.
+    let b = both (leb (a .minimum) (a .w)) (leb (a .w) 8) t in
+    taken _ _ _ (leb-true (a .minimum) (a .w) (b .0), (leb-true (a .w) 8 (b .1), tt)))
+    (λ t. let f = facts-of (widthTests (a .minimum) (a .w)) t in rw (le-leb (a .minimum) (a .w) (f .0), le-leb (a .w) 8 (f .1 .0)))
 
 pub rule-c-spec : {M : Type 1} → statement M
 rule-c-spec = tie.close (tie.spec returns)

@@ -1,3 +1,5 @@
+use mathlib.Core.Path.{sym}
+use Rattle.audit.proofs.Order.{passed, failed}
 use mathlib.Core.List.{[]}
 use mathlib.Core.Path.{sym, _∙_}
 use native.Mathlib.Omega.{arith}
@@ -33,7 +35,7 @@ first-is-zero-requires c κs = search needs
 returns : tie.Need-returns
 returns c = 
     let a = c .before .before .before .before .before .args in
-    sym (e-zero (index (a .s) [] [] (now (a .offsets)) [] []) (a .k) (a .d) (a .w) _ _ (c .before .before .before .entry-or .ensures) (c .before .before .entry-or2 .ensures) (sym (c .before .first-is-zero .ensures) ∙ not-true _ (c .if1 .taken)))
+    sym (e-zero (index (a .s) [] [] (now (a .offsets)) [] []) (a .k) (a .d) (a .w) _ _ (c .before .before .before .entry-or .ensures) (c .before .before .entry-or2 .ensures) (failed (c .before .first-is-zero .ensures) (c .if1 .taken)))
 
 -- src/lib.rt:152:9
 returns-2 : tie.Need-returns-2
@@ -52,8 +54,8 @@ rem-result c = search needs
 -- src/lib.rt:142:1
 returns-3 : tie.Need-returns-3
 returns-3 c = 
-    let a = c .before .before .before .before .before .before .before .args in
-    e-same (index (a .s) [] [] (now (a .offsets)) [] []) (a .k) (a .d) (a .w) _ _ (c .before .before .before .before .before .entry-or .ensures) (c .before .before .before .before .entry-or2 .ensures) (omega arith) (omega arith) (sym (c .before .before .before .first-is-zero .ensures) ∙ not-false _ (c .before .before .if1 .left)) (c .before .if2 .left)
+    let a = c .before .before .before .before .before .before .args in
+    e-same (index (a .s) [] [] (now (a .offsets)) [] []) (a .k) (a .d) (a .w) _ _ (c .before .before .before .before .entry-or .ensures) (c .before .before .before .entry-or2 .ensures) (omega arith) (omega arith) (passed (c .before .before .first-is-zero .ensures) (c .before .if1 .left)) (c .if2 .left)
 
 pub rule-e-spec : {M : Type 1} → statement M
 rule-e-spec =

@@ -1,60 +1,98 @@
-use mathlib.Core.List.{[]}
+use Prim.Native.Nat.{ℕ, _+_, _-_, _*_, _^_, _≤_, _<_}
 use mathlib.Core.Path.{sym, _∙_}
 use native.Mathlib.Omega.{arith}
 use denote.Ref.{now}
-use borrow.Author.Tests.{leb-true}
-use Rattle.rules.specs.Record.{index}
-use Rattle.audit.proofs.Letters.{f-sure, f-same}
+use borrow.Author.Count.{below-more}
 use borrow.Author.Needs.{needs}
+use borrow.Author.Tests.{leb-true}
+use Rattle.rules.specs.Push.{deltaAt}
+use Rattle.laws.proofs.Tests.{all-held}
+use Rattle.laws.proofs.Bytes.{delta-room}
+use Rattle.audit.proofs.Letters.{f-sure, one-over}
 use Rattle.audit.proofs.rule_f.Statement.{statement}
 use Rattle.audit.proofs.rule_f.Tie as tie
 use Rattle.audit.proofs.rule_f.Reads as reads
 use Rattle.audit.proofs.rule_f.Lts as lts
-use Rattle.audit.proofs.sums_fit.Reads as sums-fit-reads
 use Rattle.delta.proofs.all_fit.Reads as all-fit-reads
-use Rattle.tables.proofs.entry_or.Reads as entry-or-reads
+use Rattle.delta.proofs.delta_at.Reads as delta-at-reads
 
--- src/lib.rt:183:16
-mul-base : tie.Need-mul-base
-mul-base c = search needs
+abbrev Inv-deltas : tie.InvT-deltas
+Inv-deltas bytes base offset d w most i₀ i = (i ≤ d) × ((j : ℕ) → j < i → base + deltaAt bytes (offset + j * w) w < 2 ^ 64)
 
--- src/lib.rt:183:16
-shared-slice-read-base : tie.Need-shared-slice-read-base
-shared-slice-read-base c = search needs
+abbrev μ-deltas : tie.MeasureT-deltas
+μ-deltas bytes base offset d w most i₀ i = d - i
 
--- src/lib.rt:184:9
-entry-or-requires : tie.Need-entry-or-requires
-entry-or-requires c κs = search needs
-
--- src/lib.rt:185:8
-all-fit-requires : tie.Need-all-fit-requires
+-- src/lib.rt:177:8
+all-fit-requires : tie.Need-all-fit-requires Inv-deltas μ-deltas
 all-fit-requires c κs = search needs
 
--- src/lib.rt:186:9
-returns : tie.Need-returns
+-- src/lib.rt:178:9
+returns : tie.Need-returns Inv-deltas μ-deltas
 returns c = 
+    let a = c .before .before .before .args in
+    sym (f-sure (now (a .bytes)) (a .base) (a .offset) (a .d) (a .w) (omega arith) (λ i l. omega (arith, c .before .before .shared-slice-known .given i)) (leb-true _ _ (sym (c .before .all-fit .ensures) ∙ c .if1 .taken)))
+
+-- src/lib.rt:180:16
+sub-most : tie.Need-sub-most Inv-deltas μ-deltas
+sub-most c = search needs
+
+-- src/lib.rt:182:5
+deltas-holds : tie.Need-deltas-holds Inv-deltas μ-deltas
+deltas-holds c = (omega arith, λ j l. absurd (omega arith))
+
+-- src/lib.rt:186:51
+mul-delta-at : tie.Need-mul-delta-at Inv-deltas μ-deltas
+mul-delta-at c = omega (arith, delta-room (c .before .before .before .before .before .args .d) (c .before .before .before .before .before .args .w) (c .before .deltas .i) (c .if2 .left))
+
+-- src/lib.rt:186:42
+add-delta-at : tie.Need-add-delta-at Inv-deltas μ-deltas
+add-delta-at c = omega (arith, delta-room (c .before .before .before .before .before .args .d) (c .before .before .before .before .before .args .w) (c .before .deltas .i) (c .if2 .left))
+
+-- src/lib.rt:186:19
+delta-at-requires : tie.Need-delta-at-requires Inv-deltas μ-deltas
+delta-at-requires c κs = omega (arith, delta-room (c .before .before .before .before .before .args .d) (c .before .before .before .before .before .args .w) (c .before .deltas .i) (c .if2 .left))
+
+-- src/lib.rt:189:9
+add-i : tie.Need-add-i Inv-deltas μ-deltas
+add-i c = search needs
+
+-- src/lib.rt:182:5
+deltas-less : tie.Need-deltas-less Inv-deltas μ-deltas
+deltas-less c = search needs
+
+-- src/lib.rt:182:5
+deltas-again : tie.Need-deltas-again Inv-deltas μ-deltas
+deltas-again c = 
     let a = c .before .before .before .before .before .before .before .args in
-    let room = c .before .before .before .before .before .before .before .pre .6 in
-    sym (f-sure (index (a .s) [] (now (a .bases)) (now (a .offsets)) [] (now (a .bytes))) (a .k) (a .d) (a .w) _ (c .before .before .entry-or .ensures) (omega arith) (λ i l. omega (arith, c .before .before .before .before .shared-slice-known3 .given i)) (leb-true _ _ (sym (c .before .all-fit .ensures) ∙ c .if1 .taken)))
+    (omega arith, below-more (λ (j : ℕ). a .base + deltaAt (now (a .bytes)) (a .offset + j * a .w) (a .w) < 2 ^ 64) (c .before .before .before .deltas .i) (c .before .before .before .deltas .inv .1) (omega (arith, c .before .delta-at .ensures)))
 
--- src/lib.rt:188:5
-sums-fit-requires : tie.Need-sums-fit-requires
-sums-fit-requires c κs = let room = c .before .before .before .before .before .before .before .pre .6 in omega arith
-
--- src/lib.rt:171:1
-returns-2 : tie.Need-returns-2
+-- src/lib.rt:173:1
+returns-2 : tie.Need-returns-2 Inv-deltas μ-deltas
 returns-2 c = 
-    let a = c .before .before .before .before .before .before .before .before .args in
-    c .sums-fit .ensures ∙ f-same (index (a .s) [] (now (a .bases)) (now (a .offsets)) [] (now (a .bytes))) (a .k) (a .d) (a .w) _ (c .before .before .before .entry-or .ensures) (omega arith)
+    let a = c .before .before .before .before .before .args in
+    sym (all-held (a .d) (λ (i : ℕ). a .base + deltaAt (now (a .bytes)) (a .offset + i * a .w) (a .w)) (2 ^ 64) (λ i l. c .before .deltas .inv .1 i (omega arith)))
+
+-- src/lib.rt:173:1
+returns-3 : tie.Need-returns-3 Inv-deltas μ-deltas
+returns-3 c = 
+    let a = c .before .before .before .before .before .before .before .args in
+    sym (one-over (a .d) (λ (i : ℕ). a .base + deltaAt (now (a .bytes)) (a .offset + i * a .w) (a .w)) (2 ^ 64) (c .before .before .before .deltas .i) (omega arith) (omega (arith, c .before .delta-at .ensures)))
 
 pub rule-f-spec : {M : Type 1} → statement M
 rule-f-spec =
     tie.close
     (tie.spec
-    mul-base
-    shared-slice-read-base
-    entry-or-requires
+    Inv-deltas
+    μ-deltas
     all-fit-requires
     returns
-    sums-fit-requires
-    returns-2)
+    sub-most
+    deltas-holds
+    mul-delta-at
+    add-delta-at
+    delta-at-requires
+    add-i
+    deltas-less
+    deltas-again
+    returns-2
+    returns-3)
