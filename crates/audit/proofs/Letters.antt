@@ -4,14 +4,14 @@ use mathlib.Core.Bool.{true, false, _&&_}
 use mathlib.Core.List.{List, _∷_}
 use mathlib.Core.Path.{_≡_, sym, ap, _∙_}
 use native.Mathlib.Omega.{arith}
-use native.Mathlib.Nat.{div-add-mod', mul-mod-left, mul-div-cancel, pow-le-pow-right, lt-of-lt-of-le, one-le-pow}
+use native.Mathlib.Nat.{div-add-mod', mul-mod-left, mul-div-cancel, pow-le-pow-right, lt-of-lt-of-le}
 use lib.Dec.{ltb, leb, eqb, lit<}
 use lib.ListN.{length, getD}
 use borrow.Author.Tests.{ltb-true, ltb-false, leb-true, eqb-true, lt-ltb, le-leb, eq-eqb}
 use Rattle.rules.specs.Words.{Test, _≡?_, _⇒?_, holds, when-all, allBelow}
 use Rattle.rules.specs.Record.{Index, minimumOf, lengthOf, segmentsOf, widthsOf, usedOf, start, base, offset, edge, mark, widthTests}
 use Rattle.rules.specs.Push.{byteWidth, deltaAt}
-use Rattle.rules.specs.Audit.{testsE, testsF}
+use Rattle.rules.specs.Audit.{testsE}
 use Rattle.audit.specs.Letters.{ruleB, ruleC, ruleD, ruleE, ruleF}
 use Rattle.laws.proofs.Tests.{by-test, same-test, both, fact, facts-of, taken, left, all-fact, all-held}
 use Rattle.laws.proofs.Widths.{width-holds, width-least}
@@ -85,9 +85,12 @@ module _ (x : Index) (k w : ℕ) (more : k + 1 < segmentsOf x) where
       let gap = base x (k + 1) - base x k in
       same-test _ _
       (λ t. let l = ltb-true w (byteWidth gap) t in
-      taken (ruleD x k w) true false ((λ m. by-test (ltb gap (256 ^ w))
-      (λ u. let n = width-least gap w (omega arith) pos (ltb-true gap (256 ^ w) u) in absurd (omega arith))
-      (λ u. let n = ltb-false gap (256 ^ w) u in omega arith)), tt))
+      taken (ruleD x k w) true false (
+        (λ m. by-test (ltb gap (256 ^ w))
+            (λ u. let n = width-least gap w (omega arith) pos (ltb-true gap (256 ^ w) u) in absurd (omega arith))
+            (λ u. let n = ltb-false gap (256 ^ w) u in omega arith)),
+        tt,
+      ))
       (λ t. let l = facts-of (ruleD x k w) t .0 more in
       by-test (ltb w (byteWidth gap)) (λ u. u)
       (λ u. let n = lt-of-lt-of-le (width-holds gap (omega arith)) (pow-le-pow-right {n = 256} (lit< tt) (ltb-false w (byteWidth gap) u)) in absurd (omega arith)))

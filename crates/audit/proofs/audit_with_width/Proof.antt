@@ -1,105 +1,100 @@
+-- The letters in the rule's order: one that fails is the verdict; C makes the width 1 to 8, E keeps the deltas within the data.
+use Prim.Native.Nat.{ℕ}
+use mathlib.Core.Bool.{true, false}
 use mathlib.Core.List.{[]}
-use mathlib.Core.Path.{sym, _∙_}
+use mathlib.Core.Path.{_≡_, sym, _∙_}
 use native.Mathlib.Omega.{arith}
+use lib.ListN.{drop}
 use denote.Ref.{now}
-use Rattle.rules.specs.Record.{index, widthTests}
+use Rattle.rules.specs.Words.{Facts, when-all}
+use Rattle.rules.specs.Record.{Index, index, widthTests}
+use Rattle.rules.specs.Audit.{firstFlaw}
 use Rattle.laws.proofs.Tests.{facts-of}
+use Rattle.audit.specs.Letters.{ruleF, rulesCtoF}
 use Rattle.audit.proofs.Letters.{c-same, e-room, f-same}
 use Rattle.audit.proofs.Order.{passed, failed, flaw-none, flaw-next, flaw-here}
 use borrow.Author.Needs.{needs}
 use Rattle.audit.proofs.audit_with_width.Statement.{statement}
 use Rattle.audit.proofs.audit_with_width.Tie as tie
-use Rattle.audit.proofs.audit_with_width.Reads as reads
-use Rattle.audit.proofs.audit_with_width.Lts as lts
-use Rattle.audit.proofs.rule_c.Reads as rule-c-reads
-use Rattle.audit.proofs.rule_d.Reads as rule-d-reads
-use Rattle.audit.proofs.rule_e.Reads as rule-e-reads
-use Rattle.audit.proofs.rule_f.Reads as rule-f-reads
 
--- src/lib.rt:83:9
+-- the index, as far as these rules read it
+abbrev X : tie.Start → Index
+X s = let a = s .args in index (a .s) [] (now (a .bases)) (now (a .offsets)) [] (now (a .bytes))
+
+-- the first n of the rules hold, so the verdict is on those after them
+abbrev Past : ℕ → tie.Start → Type 0
+Past n s =
+    let a = s .args in
+    let rules = rulesCtoF (X s) (a .k) (a .d) (a .w) in
+    firstFlaw (a .k) rules ≡ firstFlaw (a .k) (drop n rules)
+
 rule-c-requires : tie.Need-rule-c-requires
 rule-c-requires c κs = search needs
 
--- src/lib.rt:84:9
 returns : tie.Need-returns
-returns c = 
-    let a = c .before .before .before .before .before .args in
-    let x = index (a .s) [] (now (a .bases)) (now (a .offsets)) [] (now (a .bytes)) in
-    sym (flaw-here _ _ _ (failed (c .before .rule-c .ensures ∙ c-same x (a .k) (a .w) (c .before .before .before .before .before .pre .0)) (c .if1 .taken)))
+returns c =
+    let s = c .before .before .before .before .before in
+    sym (flaw-here _ _ _ (failed (c .before .rule-c .ensures ∙ c-same (X s) (s .args .k) (s .args .w) (s .pre .0)) (c .if1 .taken)))
 
--- src/lib.rt:86:9
+past-c : (c : tie.Else1) → Past 1 (c .before .before .before .before .before)
+past-c c =
+    let s = c .before .before .before .before .before in
+    flaw-next _ _ _ (passed (c .before .rule-c .ensures ∙ c-same (X s) (s .args .k) (s .args .w) (s .pre .0)) (c .if1 .left))
+
+-- the width is m to 8
+width : (c : tie.Else1) → let a = c .before .before .before .before .before .args in Facts (widthTests (a .s .minimum) (a .w))
+width c = facts-of _ (passed (c .before .rule-c .ensures) (c .if1 .left))
+
 rule-d-requires : tie.Need-rule-d-requires
-rule-d-requires c κs = omega (arith, facts-of (widthTests (c .before .before .before .before .before .args .s .minimum) (c .before .before .before .before .before .args .w)) (passed (c .before .rule-c .ensures) (c .if1 .left)))
+rule-d-requires c κs = omega (arith, width c)
 
--- src/lib.rt:87:9
 returns-2 : tie.Need-returns-2
-returns-2 c = 
-    let a = c .before .before .before .before .before .before .before .args in
-    let x = index (a .s) [] (now (a .bases)) (now (a .offsets)) [] (now (a .bytes)) in
-    sym (flaw-next _ _ _ (passed (c .before .before .before .rule-c .ensures ∙ c-same x (a .k) (a .w) (c .before .before .before .before .before .before .before .pre .0)) (c .before .before .if1 .left))
-    ∙ flaw-here _ _ _ (failed (c .before .rule-d .ensures) (c .if2 .taken)))
+returns-2 c = sym (past-c (c .before .before) ∙ flaw-here _ _ _ (failed (c .before .rule-d .ensures) (c .if2 .taken)))
 
--- src/lib.rt:89:9
+past-d : (c : tie.Else2) → Past 2 (c .before .before .before .before .before .before .before)
+past-d c = past-c (c .before .before) ∙ flaw-next _ _ _ (passed (c .before .rule-d .ensures) (c .if2 .left))
+
 rule-e-requires : tie.Need-rule-e-requires
-rule-e-requires c κs = omega (arith, facts-of (widthTests (c .before .before .before .before .before .before .before .args .s .minimum) (c .before .before .before .before .before .before .before .args .w)) (passed (c .before .before .before .rule-c .ensures) (c .before .before .if1 .left)))
+rule-e-requires c κs = omega (arith, width (c .before .before))
 
--- src/lib.rt:90:9
 returns-3 : tie.Need-returns-3
-returns-3 c = 
-    let a = c .before .before .before .before .before .before .before .before .before .args in
-    let x = index (a .s) [] (now (a .bases)) (now (a .offsets)) [] (now (a .bytes)) in
-    sym (flaw-next _ _ _ (passed (c .before .before .before .before .before .rule-c .ensures ∙ c-same x (a .k) (a .w) (c .before .before .before .before .before .before .before .before .before .pre .0)) (c .before .before .before .before .if1 .left))
-    ∙ flaw-next _ _ _ (passed (c .before .before .before .rule-d .ensures) (c .before .before .if2 .left))
-    ∙ flaw-here _ _ _ (failed (c .before .rule-e .ensures) (c .if3 .taken)))
+returns-3 c = sym (past-d (c .before .before) ∙ flaw-here _ _ _ (failed (c .before .rule-e .ensures) (c .if3 .taken)))
 
--- src/lib.rt:92:23
+past-e : (c : tie.Else3) → Past 3 (c .before .before .before .before .before .before .before .before .before)
+past-e c = past-d (c .before .before) ∙ flaw-next _ _ _ (passed (c .before .rule-e .ensures) (c .if3 .left))
+
 mul-rule-f : tie.Need-mul-rule-f
 mul-rule-f c = search needs
 
--- src/lib.rt:92:23
 shared-slice-read-rule-f : tie.Need-shared-slice-read-rule-f
 shared-slice-read-rule-f c = search needs
 
--- src/lib.rt:92:42
 mul-rule-f-2 : tie.Need-mul-rule-f-2
 mul-rule-f-2 c = search needs
 
--- src/lib.rt:92:42
 shared-slice-read-rule-f-2 : tie.Need-shared-slice-read-rule-f-2
 shared-slice-read-rule-f-2 c = search needs
 
--- src/lib.rt:92:9
 rule-f-requires : tie.Need-rule-f-requires
-rule-f-requires c κs = 
-    let a = c .before .before .before .before .before .before .before .before .before .before .before .args in
-    let pre = c .before .before .before .before .before .before .before .before .before .before .before .pre in
-    let x = index (a .s) [] (now (a .bases)) (now (a .offsets)) [] (now (a .bytes)) in
-    let w = facts-of (widthTests (a .s .minimum) (a .w)) (passed (c .before .before .before .before .before .before .before .rule-c .ensures) (c .before .before .before .before .before .before .if1 .left)) in
-    let e = e-room x (a .k) (a .d) (a .w) (omega arith) (pre .0) (passed (c .before .before .before .rule-e .ensures) (c .before .before .if3 .left)) in
-    omega arith
+rule-f-requires c κs =
+    let s = c .before .before .before .before .before .before .before .before .before .before .before in
+    let a = s .args in
+    let pre = s .pre in
+    omega (arith, pre, width (c .before .before .before .before .before .before), e-room (X s) (a .k) (a .d) (a .w) (omega arith) (pre .0) (passed (c .before .before .before .rule-e .ensures) (c .before .before .if3 .left)))
 
--- src/lib.rt:93:9
+-- F as the rule has it
+f-rule : (c : tie.After-rule-f) → let s = c .before .before .before .before .before .before .before .before .before .before .before .before in let a = s .args in c .rule-f .result ≡ when-all (ruleF (X s) (a .k) (a .d) (a .w)) true false
+f-rule c =
+    let s = c .before .before .before .before .before .before .before .before .before .before .before .before in
+    let a = s .args in
+    let pre = s .pre in
+    c .rule-f .ensures ∙ f-same (X s) (a .k) (a .d) (a .w) (omega arith) (pre .0)
+
 returns-4 : tie.Need-returns-4
-returns-4 c = 
-    let a = c .before .before .before .before .before .before .before .before .before .before .before .before .before .args in
-    let pre = c .before .before .before .before .before .before .before .before .before .before .before .before .before .pre in
-    let x = index (a .s) [] (now (a .bases)) (now (a .offsets)) [] (now (a .bytes)) in
-    sym (flaw-next _ _ _ (passed (c .before .before .before .before .before .before .before .before .before .rule-c .ensures ∙ c-same x (a .k) (a .w) (pre .0)) (c .before .before .before .before .before .before .before .before .if1 .left))
-    ∙ flaw-next _ _ _ (passed (c .before .before .before .before .before .before .before .rule-d .ensures) (c .before .before .before .before .before .before .if2 .left))
-    ∙ flaw-next _ _ _ (passed (c .before .before .before .before .before .rule-e .ensures) (c .before .before .before .before .if3 .left))
-    ∙ flaw-here _ _ _ (failed (c .before .rule-f .ensures ∙ f-same x (a .k) (a .d) (a .w) (omega arith) (pre .0)) (c .if4 .taken)))
+returns-4 c = sym (past-e (c .before .before .before .before) ∙ flaw-here _ _ _ (failed (f-rule (c .before)) (c .if4 .taken)))
 
--- src/lib.rt:71:1
 returns-5 : tie.Need-returns-5
-returns-5 c = 
-    let a = c .before .before .before .before .before .before .before .before .before .before .before .before .before .args in
-    let pre = c .before .before .before .before .before .before .before .before .before .before .before .before .before .pre in
-    let x = index (a .s) [] (now (a .bases)) (now (a .offsets)) [] (now (a .bytes)) in
-    sym (flaw-next _ _ _ (passed (c .before .before .before .before .before .before .before .before .before .rule-c .ensures ∙ c-same x (a .k) (a .w) (pre .0)) (c .before .before .before .before .before .before .before .before .if1 .left))
-    ∙ flaw-next _ _ _ (passed (c .before .before .before .before .before .before .before .rule-d .ensures) (c .before .before .before .before .before .before .if2 .left))
-    ∙ flaw-next _ _ _ (passed (c .before .before .before .before .before .rule-e .ensures) (c .before .before .before .before .if3 .left))
-    ∙ flaw-next _ _ _ (passed (c .before .rule-f .ensures ∙ f-same x (a .k) (a .d) (a .w) (omega arith) (pre .0)) (c .if4 .left))
-    ∙ flaw-none _)
+returns-5 c = sym (past-e (c .before .before .before .before) ∙ flaw-next _ _ _ (passed (f-rule (c .before)) (c .if4 .left)) ∙ flaw-none _)
 
 pub audit-with-width-spec : {M : Type 1} → statement M
 audit-with-width-spec =

@@ -1,16 +1,13 @@
+-- The rule's own test, decided by the branch.
 use borrow.Author.Tests.{ne-eqb}
 use Rattle.rules.specs.Words.{holds}
-use borrow.Author.Tests.{eq-eqb, ne-eqb}
+use borrow.Author.Tests.{ne-eqb}
 use Rattle.audit.proofs.first_is_zero.Statement.{statement}
 use Rattle.audit.proofs.first_is_zero.Tie as tie
-use Rattle.audit.proofs.first_is_zero.Reads as reads
-use Rattle.audit.proofs.first_is_zero.Lts as lts
 
--- src/lib.rt:224:9
 returns : tie.Need-returns
 returns c = rw (c .if1 .taken)
 
--- src/lib.rt:220:1
 returns-2 : tie.Need-returns-2
 returns-2 c = rw (ne-eqb _ _ (c .if1 .left), holds)
 

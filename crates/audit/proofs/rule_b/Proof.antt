@@ -1,68 +1,54 @@
+-- The sum start + 2 is never made: the difference of two starts decides.
 use mathlib.Core.Path.{sym}
 use Rattle.audit.proofs.Order.{passed, failed}
 use mathlib.Core.List.{[]}
-use mathlib.Core.Path.{sym, _∙_}
+use mathlib.Core.Path.{sym}
 use native.Mathlib.Omega.{arith}
 use denote.Ref.{now}
-use borrow.Author.Tests.{not-true, not-false}
 use Rattle.rules.specs.Record.{index}
 use Rattle.audit.proofs.Letters.{b-zero, b-last, b-back, b-next}
 use borrow.Author.Needs.{needs}
 use Rattle.audit.proofs.rule_b.Statement.{statement}
 use Rattle.audit.proofs.rule_b.Tie as tie
-use Rattle.audit.proofs.rule_b.Reads as reads
-use Rattle.audit.proofs.rule_b.Lts as lts
-use Rattle.audit.proofs.first_is_zero.Reads as first-is-zero-reads
 
--- src/lib.rt:103:17
 mul-start : tie.Need-mul-start
 mul-start c = search needs
 
--- src/lib.rt:103:17
 shared-slice-read-start : tie.Need-shared-slice-read-start
 shared-slice-read-start c = search needs
 
--- src/lib.rt:104:9
 first-is-zero-requires : tie.Need-first-is-zero-requires
 first-is-zero-requires c κs = search needs
 
--- src/lib.rt:105:9
 returns : tie.Need-returns
-returns c = 
+returns c =
     let a = c .before .before .before .before .args in
     sym (b-zero (index (a .s) (now (a .starts)) [] [] [] []) (a .k) (omega arith) (failed (c .before .first-is-zero .ensures) (c .if1 .taken)))
 
--- src/lib.rt:107:22
 add-if2 : tie.Need-add-if2
 add-if2 c = search needs
 
--- src/lib.rt:108:9
 returns-2 : tie.Need-returns-2
-returns-2 c = 
+returns-2 c =
     let a = c .before .before .before .before .before .before .before .args in
     b-last (index (a .s) (now (a .starts)) [] [] [] []) (a .k) (omega arith) (passed (c .before .before .before .before .first-is-zero .ensures) (c .before .before .before .if1 .left)) (c .before .if2 .taken)
 
--- src/lib.rt:110:24
 add-next : tie.Need-add-next
 add-next c = search needs
 
--- src/lib.rt:110:16
 mul-next : tie.Need-mul-next
 mul-next c = search needs
 
--- src/lib.rt:110:16
 shared-slice-read-next : tie.Need-shared-slice-read-next
 shared-slice-read-next c = search needs
 
--- src/lib.rt:112:9
 returns-3 : tie.Need-returns-3
-returns-3 c = 
+returns-3 c =
     let a = c .before .before .before .before .before .before .before .before .args in
     sym (b-back (index (a .s) (now (a .starts)) [] [] [] []) (a .k) (omega arith) (passed (c .before .before .before .before .before .first-is-zero .ensures) (c .before .before .before .before .if1 .left)) (c .before .before .if2 .left) (c .if3 .taken))
 
--- src/lib.rt:99:1
 returns-4 : tie.Need-returns-4
-returns-4 c = 
+returns-4 c =
     let a = c .before .before .before .before .before .before .before .before .args in
     b-next (index (a .s) (now (a .starts)) [] [] [] []) (a .k) (omega arith) (passed (c .before .before .before .before .before .first-is-zero .ensures) (c .before .before .before .before .if1 .left)) (c .before .before .if2 .left) (c .if3 .left)
 

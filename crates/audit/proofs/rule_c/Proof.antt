@@ -1,17 +1,13 @@
-use mathlib.Core.Path.{sym}
-use native.Mathlib.Omega.{arith}
+-- Two orders, and the list of the same two.
 use Rattle.laws.proofs.Tests.{same-test, both, taken, facts-of}
 use Rattle.rules.specs.Record.{widthTests}
 use lib.Dec.{leb}
 use borrow.Author.Tests.{leb-true, le-leb}
 use Rattle.audit.proofs.rule_c.Statement.{statement}
 use Rattle.audit.proofs.rule_c.Tie as tie
-use Rattle.audit.proofs.rule_c.Reads as reads
-use Rattle.audit.proofs.rule_c.Lts as lts
 
--- src/lib.rt:118:1
 returns : tie.Need-returns
-returns c = 
+returns c =
     let a = c .args in
     same-test _ _
     (λ t.

@@ -1,3 +1,4 @@
+-- 256 ^ width is never made: a gap is below it exactly where the gap takes at most `width` bytes.
 use Prim.Native.Nat.{_+_}
 use mathlib.Core.List.{[]}
 use mathlib.Core.Path.{sym, ap, _∙_}
@@ -10,51 +11,38 @@ use Rattle.audit.proofs.Letters.{d-back, d-same}
 use borrow.Author.Needs.{needs}
 use Rattle.audit.proofs.rule_d.Statement.{statement}
 use Rattle.audit.proofs.rule_d.Tie as tie
-use Rattle.audit.proofs.rule_d.Reads as reads
-use Rattle.audit.proofs.rule_d.Lts as lts
-use Rattle.delta.proofs.byte_width.Reads as byte-width-reads
 
--- src/lib.rt:130:22
 add-if1 : tie.Need-add-if1
 add-if1 c = search needs
 
--- src/lib.rt:131:9
 returns : tie.Need-returns
 returns c = sym (taken _ _ _ (omega arith))
 
--- src/lib.rt:133:16
 mul-base : tie.Need-mul-base
 mul-base c = search needs
 
--- src/lib.rt:133:16
 shared-slice-read-base : tie.Need-shared-slice-read-base
 shared-slice-read-base c = search needs
 
--- src/lib.rt:134:23
 add-next : tie.Need-add-next
 add-next c = search needs
 
--- src/lib.rt:134:16
 mul-next : tie.Need-mul-next
 mul-next c = search needs
 
--- src/lib.rt:134:16
 shared-slice-read-next : tie.Need-shared-slice-read-next
 shared-slice-read-next c = search needs
 
--- src/lib.rt:136:9
 returns-2 : tie.Need-returns-2
-returns-2 c = 
+returns-2 c =
     let a = c .before .before .before .before .before .before .args in
     sym (d-back (index (a .s) [] (now (a .bases)) [] [] []) (a .k) (a .w) (c .before .before .before .if1 .left) (c .if2 .taken))
 
--- src/lib.rt:138:9
 byte-width-requires : tie.Need-byte-width-requires
 byte-width-requires c κs = search needs
 
--- src/lib.rt:126:1
 returns-3 : tie.Need-returns-3
-returns-3 c = 
+returns-3 c =
     let a = c .before .before .before .before .before .before .before .args in
     ap (ltb (a .w)) (c .byte-width .ensures) ∙ d-same (index (a .s) [] (now (a .bases)) [] [] []) (a .k) (a .w) (c .before .before .before .before .if1 .left) (omega (arith, c .before .before .before .before .before .before .shared-slice-known .given (a .k + 1))) (c .before .if2 .left) (omega arith)
 

@@ -1,3 +1,4 @@
+-- Where there is no width its entry counts for nothing, so the answer is the rule's at any w.
 use mathlib.Core.List.{[]}
 use mathlib.Core.Path.{refl, sym}
 use native.Mathlib.Omega.{arith}
@@ -8,28 +9,20 @@ use Rattle.audit.proofs.Order.{passed, failed}
 use borrow.Author.Needs.{needs}
 use Rattle.audit.proofs.rule_e_without_width.Statement.{statement}
 use Rattle.audit.proofs.rule_e_without_width.Tie as tie
-use Rattle.audit.proofs.rule_e_without_width.Reads as reads
-use Rattle.audit.proofs.rule_e_without_width.Lts as lts
-use Rattle.audit.proofs.first_is_zero.Reads as first-is-zero-reads
-use Rattle.tables.proofs.entry_or.Reads as entry-or-reads
 
--- src/lib.rt:165:9
 entry-or-requires : tie.Need-entry-or-requires
 entry-or-requires c κs = search needs
 
--- src/lib.rt:166:9
 first-is-zero-requires : tie.Need-first-is-zero-requires
 first-is-zero-requires c κs = search needs
 
--- src/lib.rt:167:9
 returns : tie.Need-returns
-returns c = 
+returns c =
     let a = c .before .before .before .before .args in
     λ w. sym (e-zero (index (a .s) [] [] (now (a .offsets)) [] []) (a .k) (a .d) w _ _ (c .before .before .entry-or .ensures) refl (failed (c .before .first-is-zero .ensures) (c .if1 .taken)))
 
--- src/lib.rt:160:1
 returns-2 : tie.Need-returns-2
-returns-2 c = 
+returns-2 c =
     let a = c .before .before .before .before .args in
     λ w. e-without (index (a .s) [] [] (now (a .offsets)) [] []) (a .k) (a .d) w _ _ (c .before .before .entry-or .ensures) refl (omega arith) (passed (c .before .first-is-zero .ensures) (c .if1 .left))
 
