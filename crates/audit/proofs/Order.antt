@@ -1,11 +1,10 @@
 -- The order of the audit: letter after letter in a segment, segment after segment in the index.
 use Prim.Native.Nat.{ℕ, suc, _+_, _-_, _≤_, _<_}
-use mathlib.Core.Bool.{Bool, true, false, not}
+use mathlib.Core.Bool.{true, false}
 use mathlib.Core.List.{List, [], _∷_}
 use mathlib.Core.Path.{_≡_, refl, sym, ap, _∙_}
 use native.Mathlib.Omega.{arith}
 use native.Mathlib.Numerals.{add-one}
-use borrow.Author.Tests.{not-true, not-false}
 use Rattle.rules.specs.declared.Letter as code-letter
 use Rattle.rules.specs.declared.Verdict as code-verdict
 use Rattle.rules.specs.Words.{when-all}
@@ -13,13 +12,6 @@ use Rattle.rules.specs.Record.{Index, segmentsOf, widthsOf, width, countsHold}
 use Rattle.rules.specs.Audit.{A, E, F, wellFormed, flaw, deltas, Rule, _by_, rulesOf, firstFlaw, auditFrom, auditRule, letterOf, verdictOf}
 use Rattle.audit.specs.Letters.{ruleB, ruleC, ruleD, ruleE, ruleF, rulesCtoF}
 use Rattle.laws.proofs.Tests.{taken}
-
--- a test in code that did not stop it, and one that did, say what the rule says
-pub passed : {a b : Bool} → a ≡ b → not a ≡ false → b ≡ true
-passed e n = sym e ∙ not-false _ n
-
-pub failed : {a b : Bool} → a ≡ b → not a ≡ true → b ≡ false
-failed e n = sym e ∙ not-true _ n
 
 -- no rule is left
 pub flaw-none : (k : ℕ) → firstFlaw k [] ≡ wellFormed

@@ -8,8 +8,8 @@ use Rattle.rules.specs.Record.{Index, index, width}
 use Rattle.rules.specs.Audit.{rulesOf, firstFlaw}
 use Rattle.laws.proofs.Answers.{width-there, width-absent}
 use Rattle.audit.specs.Letters.{rulesCtoF}
-use Rattle.audit.proofs.Letters.{b-room}
-use Rattle.audit.proofs.Order.{passed, failed, flaw-here, past-b, without-flaw, without-none}
+use Rattle.audit.proofs.Letters.{passed, failed, b-room}
+use Rattle.audit.proofs.Order.{flaw-here, past-b, without-flaw, without-none}
 use borrow.Author.Needs.{needs}
 use Rattle.audit.proofs.audit_segment.Statement.{statement}
 use Rattle.audit.proofs.audit_segment.Tie as tie

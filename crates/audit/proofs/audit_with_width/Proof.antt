@@ -11,8 +11,8 @@ use Rattle.rules.specs.Record.{Index, index, widthTests}
 use Rattle.rules.specs.Audit.{firstFlaw}
 use Rattle.laws.proofs.Tests.{facts-of}
 use Rattle.audit.specs.Letters.{ruleF, rulesCtoF}
-use Rattle.audit.proofs.Letters.{c-same, e-room, f-same}
-use Rattle.audit.proofs.Order.{passed, failed, flaw-none, flaw-next, flaw-here}
+use Rattle.audit.proofs.Letters.{passed, failed, c-same, e-room, f-same}
+use Rattle.audit.proofs.Order.{flaw-none, flaw-next, flaw-here}
 use borrow.Author.Needs.{needs}
 use Rattle.audit.proofs.audit_with_width.Statement.{statement}
 use Rattle.audit.proofs.audit_with_width.Tie as tie

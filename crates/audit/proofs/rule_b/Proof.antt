@@ -1,12 +1,10 @@
 -- The sum start + 2 is never made: the difference of two starts decides.
-use mathlib.Core.Path.{sym}
-use Rattle.audit.proofs.Order.{passed, failed}
 use mathlib.Core.List.{[]}
 use mathlib.Core.Path.{sym}
 use native.Mathlib.Omega.{arith}
 use denote.Ref.{now}
 use Rattle.rules.specs.Record.{index}
-use Rattle.audit.proofs.Letters.{b-zero, b-last, b-back, b-next}
+use Rattle.audit.proofs.Letters.{passed, failed, b-zero, b-last, b-back, b-next}
 use borrow.Author.Needs.{needs}
 use Rattle.audit.proofs.rule_b.Statement.{statement}
 use Rattle.audit.proofs.rule_b.Tie as tie

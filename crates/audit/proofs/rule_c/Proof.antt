@@ -1,8 +1,8 @@
 -- Two orders, and the list of the same two.
-use Rattle.laws.proofs.Tests.{same-test, both, taken, facts-of}
-use Rattle.rules.specs.Record.{widthTests}
 use lib.Dec.{leb}
 use borrow.Author.Tests.{leb-true, le-leb}
+use Rattle.rules.specs.Record.{widthTests}
+use Rattle.laws.proofs.Tests.{same-test, both, taken, facts-of}
 use Rattle.audit.proofs.rule_c.Statement.{statement}
 use Rattle.audit.proofs.rule_c.Tie as tie
 

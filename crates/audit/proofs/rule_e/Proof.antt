@@ -1,12 +1,10 @@
 -- The product is never made: the byte count has the quotient d and no rest exactly where it is d times the width.
-use mathlib.Core.Path.{sym}
-use Rattle.audit.proofs.Order.{passed, failed}
 use mathlib.Core.List.{[]}
 use mathlib.Core.Path.{sym}
 use native.Mathlib.Omega.{arith}
 use denote.Ref.{now}
 use Rattle.rules.specs.Record.{index}
-use Rattle.audit.proofs.Letters.{e-zero, e-back, e-same}
+use Rattle.audit.proofs.Letters.{passed, failed, e-zero, e-back, e-same}
 use borrow.Author.Needs.{needs}
 use Rattle.audit.proofs.rule_e.Statement.{statement}
 use Rattle.audit.proofs.rule_e.Tie as tie

@@ -4,8 +4,7 @@ use mathlib.Core.Path.{refl, sym}
 use native.Mathlib.Omega.{arith}
 use denote.Ref.{now}
 use Rattle.rules.specs.Record.{index}
-use Rattle.audit.proofs.Letters.{e-zero, e-without}
-use Rattle.audit.proofs.Order.{passed, failed}
+use Rattle.audit.proofs.Letters.{passed, failed, e-zero, e-without}
 use borrow.Author.Needs.{needs}
 use Rattle.audit.proofs.rule_e_without_width.Statement.{statement}
 use Rattle.audit.proofs.rule_e_without_width.Tie as tie
