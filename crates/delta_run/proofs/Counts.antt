@@ -17,6 +17,7 @@ not-both : {P : Type 0} (n e : ℕ) → value n ≡ refused e → P
 not-both n e q = let z : _≡_ {A = ℕ} 0 1 = cc in absurd (omega arith)
 
 module _ (bytes : List ℕ) (w : ℕ) where
+  -- the rule gives a value where both tests hold
   value-rule : (n : ℕ) → value n ≡ runCountRule bytes w → Facts (widthTests 1 w) × (n ≡ length bytes / w)
   unfolding runCountRule
   value-rule n =
@@ -24,6 +25,7 @@ module _ (bytes : List ℕ) (w : ℕ) where
       (λ f q. (f, cc))
       (λ never q. not-both n 10 q)
 
+  -- the rule refuses where one fails
   refused-rule : (e : ℕ) → refused e ≡ runCountRule bytes w → Facts (widthTests 1 w) → ⊥
   unfolding runCountRule
   refused-rule e =
