@@ -1,0 +1,1 @@
+fn main() { let mut i = block16::Index::open(1).unwrap(); for v in [0u64,0,256,256,512] { i.push(v).unwrap(); } println!("{:?} {:?}", i.get_range(0,5), i.bisect_left(513)); println!("{:?}", i.tables()); }
