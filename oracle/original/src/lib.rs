@@ -127,7 +127,7 @@ impl Index {
         std::array::from_fn(|table| self.streams.stream(table).bytes())
     }
 
-    /// Did the last `access` to the data return less than was asked of it?
+    /// Did the last `access` to the data return less than was asked of it? Asking forgets it.
     pub fn cut_short(&self) -> bool {
         self.streams.stream(4).cut_short()
     }

@@ -44,14 +44,17 @@ pub fn stream<const S: usize>(db: &mut CounterSet) -> Result<(StreamWriter<S>, S
 impl Store {
     /// All bytes written so far.
     pub fn bytes(&self) -> Vec<u8> {
-        let mut bytes: Vec<u8> = self.blocks.borrow().iter().flat_map(|block| cast_slice::<u64, u8>(block).to_vec()).collect();
+        let mut bytes = Vec::new();
+        for block in self.blocks.borrow().iter() {
+            bytes.extend_from_slice(cast_slice(block));
+        }
         bytes.truncate(self.length.get() as usize);
         bytes
     }
 
-    /// Did the last access return less than was asked?
+    /// Did the last access return less than was asked? Asking forgets it.
     pub fn cut_short(&self) -> bool {
-        self.cut_short.get()
+        self.cut_short.take()
     }
 }
 
