@@ -4,7 +4,7 @@ use crate::chance::{edge, Chance};
 use crate::engine::Engine;
 use crate::original::{Call, BLOCKS};
 use crate::pair::Pair;
-use crate::tally::{Class, Input, Tally};
+use crate::tally::Tally;
 
 /// Values around the edges of bytes, and the largest.
 const ALPHABET: [u64; 8] = [0, 1, 255, 256, 257, 65_535, 65_536, u64::MAX];
@@ -25,6 +25,14 @@ pub fn run(engine: &dyn Engine, chance: &mut Chance, tally: &mut Tally) {
         short_lists(engine, block, 1, 5, &[0, 1, 256, 257], tally);
         short_lists(engine, block, 2, 4, &[0, 255, 65_536, 65_537, u64::MAX], tally);
         many_segments(engine, block, chance, tally);
+    }
+}
+
+/// A small part of it: short lists, and longer ones by chance.
+pub fn short_run(engine: &dyn Engine, tally: &mut Tally) {
+    short_lists(engine, 64, 1, 3, &ALPHABET, tally);
+    for minimum in 1..=8 {
+        list_by_chance(engine, 64, minimum, &mut Chance(minimum), tally);
     }
 }
 
@@ -108,7 +116,7 @@ fn edges(engine: &dyn Engine, block: usize, minimum: u64, tally: &mut Tally) {
 fn list_by_chance(engine: &dyn Engine, block: usize, minimum: u64, chance: &mut Chance, tally: &mut Tally) {
     let length = chance.below(60) as usize;
     let falls = chance.once_in(2);
-    let mut pair = Pair::open(engine, block, minimum, length + 1);
+    let mut pair = Pair::open(engine, block, minimum, length + 9);
     let mut last = chance.number() >> chance.below(64);
     for _ in 0..length {
         let from = if falls { pair.base().unwrap_or(last) } else { last };
@@ -118,6 +126,10 @@ fn list_by_chance(engine: &dyn Engine, block: usize, minimum: u64, chance: &mut 
         reads_by_chance(&mut pair, 4, chance, tally);
     }
     reads_by_chance(&mut pair, 60, chance, tally);
+    if length > 0 {
+        let later: Vec<u64> = (0..8).map(|k| last.saturating_add(k << (8 * (k / 2)))).collect();
+        pair.walk_while_pushing(tally, chance.below(pair.length()), pair.length(), &later);
+    }
     below_base(&mut pair, chance, tally);
 }
 

@@ -1,6 +1,7 @@
 //! The original, whatever its block size, with its errors and panics as things that can be compared.
 
-use std::panic::{catch_unwind, AssertUnwindSafe};
+use std::cell::Cell;
+use std::panic::{self, catch_unwind, AssertUnwindSafe};
 
 use anyhow::Error;
 
@@ -58,8 +59,17 @@ impl std::fmt::Display for Call {
 pub trait Original {
     fn block(&self) -> usize;
     fn ask(&mut self, call: Call) -> Said;
+    /// Opens an iterator, to be called for its steps: each gives a value, or none when it is done.
+    fn steps(&mut self, start: u64, end: u64) -> Box<dyn FnMut() -> Said>;
     /// The bytes of starts, bases, offsets, widths, data.
     fn tables(&self) -> [Vec<u8>; 5];
+    /// The entries of the same five.
+    fn entries(&self) -> [Vec<u64>; 5] {
+        let words = |table: Vec<u8>| table.chunks_exact(8).map(|word| u64::from_le_bytes(word.try_into().unwrap())).collect();
+        let bytes = |table: Vec<u8>| table.into_iter().map(u64::from).collect();
+        let [starts, bases, offsets, widths, data] = self.tables();
+        [words(starts), words(bases), words(offsets), bytes(widths), bytes(data)]
+    }
     /// Did the last `access` to the data return less than was asked? Asking forgets it.
     fn cut_short(&self) -> bool;
 }
@@ -92,12 +102,17 @@ macro_rules! originals {
                         Call::Size => same(self.lengths_and_sizes().map(|(_, size)| size)),
                         Call::Get(p) => vec![self.get(p)?],
                         Call::GetRange(a, b) => self.get_range(a, b)?,
-                        Call::Iter(a, b) => self.walk(a, b)?,
+                        Call::Iter(a, b) => self.iter(a, b)?.collect::<Result<_, _>>()?,
                         Call::TargetRange(p, t) => self.target_range(p, t).map(|(start, end)| vec![start, end])?,
                         Call::BisectLeft(v) => vec![self.bisect_left(v)?],
                         Call::BisectRangeLeft(a, b, v) => vec![self.bisect_range_left(a, b, v)?],
                     })
                 })
+            }
+
+            fn steps(&mut self, start: u64, end: u64) -> Box<dyn FnMut() -> Said> {
+                let mut iterator = self.iter(start, end).expect("a range on the domain");
+                Box::new(move || run(|| iterator.next().into_iter().collect()))
             }
 
             fn tables(&self) -> [Vec<u8>; 5] {
@@ -113,6 +128,21 @@ macro_rules! originals {
 
 originals!(block16, block64, block4096);
 
+thread_local! {
+    /// Is the original being asked? Its panics are outcomes, and nobody prints them.
+    static ASKED: Cell<bool> = const { Cell::new(false) };
+}
+
+/// Keeps the original's panics off the screen, and no others.
+pub fn keep_panics_quiet() {
+    let loud = panic::take_hook();
+    panic::set_hook(Box::new(move |panic| {
+        if !ASKED.get() {
+            loud(panic);
+        }
+    }));
+}
+
 /// The writer's and the reader's number, which must be one.
 fn same([writer, reader]: [u64; 2]) -> Vec<u64> {
     assert_eq!(writer, reader, "writer and reader differ");
@@ -121,7 +151,10 @@ fn same([writer, reader]: [u64; 2]) -> Vec<u64> {
 
 /// Runs a call of the original and takes its error or panic as an outcome.
 fn run(call: impl FnOnce() -> Result<Vec<u64>, Error>) -> Said {
-    match catch_unwind(AssertUnwindSafe(call)) {
+    ASKED.set(true);
+    let outcome = catch_unwind(AssertUnwindSafe(call));
+    ASKED.set(false);
+    match outcome {
         Ok(Ok(values)) => Said::Values(values),
         Ok(Err(error)) => refusal(error.to_string()),
         Err(panic) => Said::Panic(match (panic.downcast_ref::<&str>(), panic.downcast_ref::<String>()) {
@@ -145,6 +178,6 @@ fn refusal(error: String) -> Said {
 
 /// Do this build's overflows panic?
 pub fn overflow_checks() -> bool {
-    let zero = std::hint::black_box(0u64);
-    catch_unwind(|| std::hint::black_box(zero - 1)).is_err()
+    let less = |zero: u64| Ok(vec![std::hint::black_box(zero - 1)]);
+    matches!(run(|| less(std::hint::black_box(0))), Said::Panic(_))
 }

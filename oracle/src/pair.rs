@@ -92,12 +92,13 @@ impl<'e> Pair<'e> {
         self.state.length
     }
 
-    pub fn state(&self) -> &State {
-        &self.state
-    }
-
     pub fn values(&self) -> &[u64] {
         &self.values
+    }
+
+    /// The entries of the original's five tables.
+    pub fn original_tables(&self) -> [Vec<u64>; 5] {
+        self.original.entries()
     }
 
     /// The current base.
@@ -109,38 +110,64 @@ impl<'e> Pair<'e> {
         Input::new(&self.values, self.minimum, self.original.block(), call)
     }
 
-    /// Asks both, and counts. A push leaves both with the same tables or none with a new value; answers whether that is so still.
-    pub fn ask(&mut self, tally: &mut Tally, call: Call) -> bool {
+    /// Asks both, and counts. Answers what the original said where the call is on the domain, a ranged bisect's answer moved into its range.
+    pub fn ask(&mut self, tally: &mut Tally, call: Call) -> Option<Said> {
         self.original.cut_short();
         let rust = self.original.ask(call);
         let cut_short = self.original.cut_short();
         let class = self.class(call, cut_short);
         let ours = ask(self.engine, &mut self.state, &mut self.tables, call);
         let input = || self.input(call);
-        match (class, call, &rust) {
-            (Some(class), ..) => tally.outside(class, input, &rust, &ours),
-            (None, Call::BisectRangeLeft(a, b, _), Said::Values(answer)) if a <= b => {
-                let moved = Said::Values(vec![answer[0].clamp(a, b)]);
-                tally.compare(input, &moved, &ours);
-                tally.outside(Class::BisectOutside, input, &rust, &ours);
+        let judged = match (class, call, &rust) {
+            (Some(class), ..) => {
+                tally.outside(class, input, &rust, &ours);
+                None
             }
-            _ => tally.compare(input, &rust, &ours),
+            (None, Call::BisectRangeLeft(a, b, _), Said::Values(answer)) => {
+                tally.outside(Class::BisectOutside, input, &rust, &ours);
+                Some(Said::Values(vec![answer[0].max(a).min(b)]))
+            }
+            _ => Some(rust),
+        };
+        if let Some(rust) = &judged {
+            tally.compare(input, rust, &ours);
         }
         if let (Call::Push(value), Said::Values(_)) = (call, &ours) {
             self.falling |= self.values.last().is_some_and(|&last| value < last);
             self.values.push(value);
         }
-        matches!(rust, Said::Values(_)) == matches!(ours, Said::Values(_))
+        judged
     }
 
-    /// Pushes, and compares counts and tables, spare entries too. Answers whether both still hold the same index.
-    pub fn push(&mut self, tally: &mut Tally, value: u64) -> bool {
+    /// Pushes, and compares the tables, unless the original took what ours refused.
+    pub fn push(&mut self, tally: &mut Tally, value: u64) -> Option<Said> {
         let call = Call::Push(value);
-        let together = self.ask(tally, call);
-        if together {
+        let judged = self.ask(tally, call);
+        if self.original.ask(Call::Length) == Said::Values(vec![self.state.length]) {
             self.compare_tables(tally, call);
         }
-        together
+        judged
+    }
+
+    /// Compares a walk step by step, with a push after each step while there are values to push.
+    pub fn walk_while_pushing(&mut self, tally: &mut Tally, start: u64, end: u64, values: &[u64]) {
+        let mut steps = self.original.steps(start, end);
+        let mut cursor = self.engine.iter(&self.state, &self.tables, start, end).expect("a range on the domain");
+        let mut values = values.iter();
+        loop {
+            let rust = steps();
+            let ours = match self.engine.next(&mut cursor, &self.state, &self.tables) {
+                Ok(value) => Said::Values(value.into_iter().collect()),
+                Err(refusal) => Said::Refused(refusal),
+            };
+            tally.compare(|| self.input(Call::Iter(start, end)), &rust, &ours);
+            if rust != ours || ours == Said::Values(Vec::new()) {
+                return;
+            }
+            if let Some(&value) = values.next() {
+                self.push(tally, value);
+            }
+        }
     }
 
     /// Compares the five tables entry by entry, spare entries too, and asks the audit.
@@ -168,8 +195,9 @@ impl<'e> Pair<'e> {
         let n = self.state.length;
         match call {
             Call::Push(v) if self.base().is_some_and(|base| v < base) => Some(Class::BelowBase),
+            Call::Push(v) if self.state.segments == 65_535 && self.new_segment_due(v) => Some(Class::Limits),
             Call::GetRange(a, b) if b <= n && a > b => Some(Class::RangeReversed),
-            Call::GetRange(_, 0) | Call::Iter(0, 0) if n == 0 => Some(Class::EmptyIndex),
+            Call::GetRange(0, 0) | Call::Iter(0, 0) if n == 0 => Some(Class::EmptyIndex),
             Call::GetRange(a, b) if (a, b) == (n, n) && self.state.widths < self.state.segments => Some(Class::RangeAtEnd),
             Call::Iter(a, b) if b <= n && a > b => Some(Class::IterReversed),
             Call::BisectLeft(_) if cut_short => Some(Class::AccessShort),
@@ -179,6 +207,13 @@ impl<'e> Pair<'e> {
             Call::BisectRangeLeft(_, b, _) if b <= n && self.falling => Some(Class::BisectFalling),
             _ => None,
         }
+    }
+
+    /// Does a value at or above the base not fit the last segment's width?
+    fn new_segment_due(&self, v: u64) -> bool {
+        let last = self.state.segments as usize - 1;
+        let width = (self.state.widths > last as u64).then(|| self.tables.widths[last]);
+        width.is_some_and(|width| width < 8 && (v - self.tables.bases[last]) >> (8 * width) > 0)
     }
 
     /// Does the range end before, or start after, the deltas of the segment that v belongs to, where those are searched?

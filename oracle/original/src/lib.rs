@@ -3,6 +3,9 @@
 //! `database::{compact_index, index_stream, data_stream}` and `util::id` are the original's own files. Everything else here is ours:
 //! `database::{counter, stream}`, `util::{dump, fmt_count, fmt_size}`, and `Index` below, which only calls the original.
 
+// The original has `len` without `is_empty`, and asks the same of its streams.
+#![allow(clippy::len_without_is_empty)]
+
 pub mod database {
     pub mod counter;
     pub mod stream;
@@ -104,9 +107,8 @@ impl Index {
         Ok(values.into_iter().map(u64::from).collect())
     }
 
-    /// Opens an iterator and walks it to its end or to its first error.
-    pub fn walk(&mut self, start: u64, end: u64) -> Result<Vec<u64>, Error> {
-        self.reader.iter(&(start.into()..end.into()))?.map(|value| Ok(value?.value)).collect()
+    pub fn iter(&mut self, start: u64, end: u64) -> Result<impl Iterator<Item = Result<u64, Error>>, Error> {
+        Ok(self.reader.iter(&(start.into()..end.into()))?.map(|value| Ok(value?.value)))
     }
 
     pub fn target_range(&mut self, position: u64, target_length: u64) -> Result<(u64, u64), Error> {
