@@ -98,8 +98,10 @@ impl Pinned {
         let mut state = engine.open(*minimum).unwrap();
         let mut tables = spare_tables(values.len() + 1);
         for &value in values {
-            let both = [original.ask(Call::Push(value)), ask(engine, &mut state, &mut tables, Call::Push(value))];
-            self.expect("a push that both take", &both[1].to_string(), &both[0].to_string());
+            let (rust, ours) = (original.ask(Call::Push(value)), ask(engine, &mut state, &mut tables, Call::Push(value)));
+            if rust != ours {
+                self.expect("a push that both take", &ours.to_string(), &rust.to_string());
+            }
         }
         for (call, checked, wrapping, ours) in *calls {
             let what = format!("m {minimum}, {} values, {call}", values.len());
@@ -111,10 +113,11 @@ impl Pinned {
 
     /// A minimum outside 1 to 8: the original has no test, and takes 0 as 1; with 9 it fails at the first delta.
     fn minimums(&mut self, engine: &dyn Engine) {
-        for (minimum, must) in [(0, "[1]"), (9, "panic: range end index 9 out of range for slice of length 8")] {
+        for (minimum, width, must) in [(0, 1, "[1]"), (9, 9, "panic: range end index 9 out of range for slice of length 8")] {
             let mut original = original::open(16, minimum);
             self.expect("first push", &original.ask(Call::Push(0)).to_string(), "[0]");
             self.expect("second push", &original.ask(Call::Push(0)).to_string(), must);
+            self.expect("its width", &format!("{:?}", original.entries()[3]), &format!("[{width}]"));
             self.expect("open", &format!("{:?}", engine.open(minimum)), "Err(11)");
         }
     }
