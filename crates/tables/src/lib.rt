@@ -1,4 +1,5 @@
-// What every entry point asks first: the counts rule, a segment's width, where a segment begins.
+// What every entry point asks first: the counts rule, a range's bounds, a segment's width, where a segment begins.
+use rules::Refusal;
 use rules::State;
 use rules::Width;
 ghost use mathlib.Core.Path.{_≡_};
@@ -9,6 +10,7 @@ ghost use lib.ListN.{length, getD};
 ghost use Rattle.rules.specs.Words.{when, when-all};
 ghost use Rattle.rules.specs.Record.{index, roomOf, stateTests, roomTests, countsHold};
 ghost use Rattle.rules.specs.Refusals.{widthAt};
+ghost use Rattle.tables.specs.Range.{checkedOf, checkRule};
 
 // Whether the state and the five tables keep the counts rule.
 pub fn counts_hold(
@@ -82,6 +84,37 @@ fn room_holds(
         return false;
     }
     s.used <= (bytes.len() as u64)
+}
+
+// What a check answers: good, or why not.
+pub enum Checked {
+    Good,
+    Refused(Refusal),
+}
+
+// Whether the positions a..b lie within an index that keeps the counts rule.
+pub fn check_range(
+    s: State,
+    starts: &[u64],
+    bases: &[u64],
+    offsets: &[u64],
+    widths: &[u8],
+    bytes: &[u8],
+    a: u64,
+    b: u64,
+) -> Checked
+    ensures { λ r. ⌜ checkedOf r ≡ checkRule (index s (now (starts .entry)) (now (bases .entry)) (now (offsets .entry)) (now (widths .entry)) (now (bytes .entry))) a b ⌝ }
+{
+    if !counts_hold(s, starts, bases, offsets, widths, bytes) {
+        return Checked::Refused(Refusal::Counts);
+    }
+    if s.length < b {
+        return Checked::Refused(Refusal::RangeEnd);
+    }
+    if b < a {
+        return Checked::Refused(Refusal::Reversed);
+    }
+    Checked::Good
 }
 
 // The width of segment k, or that it has none: the state counts the widths.

@@ -1,0 +1,297 @@
+// Reads of an index over lent tables, which may be damaged.
+use rules::Got;
+use rules::Refusal;
+use rules::State;
+use rules::Target;
+use rules::Width;
+use tables::Checked;
+ghost use mathlib.Core.Path.{_≡_};
+ghost use mathlib.Core.Bool.{true};
+ghost use Prim.Native.Nat.{_≤_, _<_, min, max};
+ghost use lib.ListN.{length};
+ghost use Rattle.rules.specs.Record.{index, countsHold};
+ghost use Rattle.rules.specs.Push.{lengthRule, sizeRule};
+ghost use Rattle.rules.specs.Reading.{deltaRead, readIn, getRule, targetEnd, targetRule, deltaSearch, bisectIn, bisectRule, bisectRangeRule};
+ghost use Rattle.rules.specs.Refusals.{answerOf, targetOf};
+
+// How many values the index holds.
+pub fn length(
+    s: State,
+    starts: &[u64],
+    bases: &[u64],
+    offsets: &[u64],
+    widths: &[u8],
+    bytes: &[u8],
+) -> Got
+    ensures { λ r. ⌜ answerOf r ≡ lengthRule (index s (now (starts .entry)) (now (bases .entry)) (now (offsets .entry)) (now (widths .entry)) (now (bytes .entry))) ⌝ }
+{
+    if !tables::counts_hold(s, starts, bases, offsets, widths, bytes) {
+        return Got::Refused(Refusal::Counts);
+    }
+    Got::Value(s.length)
+}
+
+// How many bytes the index takes: three numbers a segment, its widths and its data.
+pub fn size(
+    s: State,
+    starts: &[u64],
+    bases: &[u64],
+    offsets: &[u64],
+    widths: &[u8],
+    bytes: &[u8],
+) -> Got
+    ensures { λ r. ⌜ answerOf r ≡ sizeRule (index s (now (starts .entry)) (now (bases .entry)) (now (offsets .entry)) (now (widths .entry)) (now (bytes .entry))) ⌝ }
+{
+    if !tables::counts_hold(s, starts, bases, offsets, widths, bytes) {
+        return Got::Refused(Refusal::Counts);
+    }
+    Got::Value(24 * s.segments + s.widths + s.used)
+}
+
+// The value at position p.
+pub fn get(
+    s: State,
+    starts: &[u64],
+    bases: &[u64],
+    offsets: &[u64],
+    widths: &[u8],
+    bytes: &[u8],
+    p: u64,
+) -> Got
+    ensures { λ r. ⌜ answerOf r ≡ getRule (index s (now (starts .entry)) (now (bases .entry)) (now (offsets .entry)) (now (widths .entry)) (now (bytes .entry))) p ⌝ }
+{
+    if !tables::counts_hold(s, starts, bases, offsets, widths, bytes) {
+        return Got::Refused(Refusal::Counts);
+    }
+    if s.length <= p {
+        return Got::Refused(Refusal::Position);
+    }
+    let k = index_stream::bisect_right(starts, s.segments, p);
+    if k == 0 {
+        return Got::Refused(Refusal::Damaged);
+    }
+    read_in(s, starts, bases, offsets, widths, bytes, k - 1, p)
+}
+
+// The value at position p, read in segment k.
+pub fn read_in(
+    s: State,
+    starts: &[u64],
+    bases: &[u64],
+    offsets: &[u64],
+    widths: &[u8],
+    bytes: &[u8],
+    k: u64,
+    p: u64,
+) -> Got
+    requires { ⌜ (countsHold (index s (now starts) (now bases) (now offsets) (now widths) (now bytes)) ≡ true) × (k < s .segments) ⌝ }
+    ensures { λ r. ⌜ answerOf r ≡ readIn (index s (now (starts .entry)) (now (bases .entry)) (now (offsets .entry)) (now (widths .entry)) (now (bytes .entry))) k p ⌝ }
+{
+    let start = starts[k as usize];
+    let base = bases[k as usize];
+    let offset = offsets[k as usize];
+    if p < start {
+        return Got::Refused(Refusal::Damaged);
+    }
+    if p == start {
+        return Got::Value(base);
+    }
+    let Width::Of(w) = tables::width_of(s, widths, k) else {
+        return Got::Refused(Refusal::Damaged);
+    };
+    delta_read(s.minimum, s.used, bytes, base, offset, p - start - 1, w)
+}
+
+// Delta number i of a segment with this base, offset and width, added to the base.
+fn delta_read(minimum: u64, used: u64, bytes: &[u8], base: u64, offset: u64, i: u64, w: u8) -> Got
+    requires { ⌜ (1 ≤ minimum) × (used ≤ length (now bytes)) ⌝ }
+    ensures { λ r. ⌜ answerOf r ≡ deltaRead minimum used (now (bytes .entry)) base offset i w ⌝ }
+{
+    let width = w as u64;
+    if width < minimum {
+        return Got::Refused(Refusal::Damaged);
+    }
+    if 8 < width {
+        return Got::Refused(Refusal::Damaged);
+    }
+    if used < offset {
+        return Got::Refused(Refusal::Damaged);
+    }
+    if (used - offset) / width <= i {
+        return Got::Refused(Refusal::Damaged);
+    }
+    let delta = delta::delta_at(bytes, offset + i * width, width);
+    if 18446744073709551615 - base < delta {
+        return Got::Refused(Refusal::Damaged);
+    }
+    Got::Value(base + delta)
+}
+
+// The target of position p, where t is the end of the last one: from the value at p to the smaller of the next value and t.
+pub fn target_range(
+    s: State,
+    starts: &[u64],
+    bases: &[u64],
+    offsets: &[u64],
+    widths: &[u8],
+    bytes: &[u8],
+    p: u64,
+    t: u64,
+) -> Target
+    ensures { λ r. ⌜ targetOf r ≡ targetRule (index s (now (starts .entry)) (now (bases .entry)) (now (offsets .entry)) (now (widths .entry)) (now (bytes .entry))) p t ⌝ }
+{
+    match get(s, starts, bases, offsets, widths, bytes, p) {
+        Got::Value(from) => match target_end(s, starts, bases, offsets, widths, bytes, p, t) {
+            Got::Value(to) => Target::Range(from, to),
+            Got::Refused(e) => Target::Refused(e),
+        },
+        Got::Refused(e) => Target::Refused(e),
+    }
+}
+
+// Where the target of position p ends: t for the last position, otherwise the smaller of the next value and t.
+fn target_end(
+    s: State,
+    starts: &[u64],
+    bases: &[u64],
+    offsets: &[u64],
+    widths: &[u8],
+    bytes: &[u8],
+    p: u64,
+    t: u64,
+) -> Got
+    ensures { λ r. ⌜ answerOf r ≡ targetEnd (index s (now (starts .entry)) (now (bases .entry)) (now (offsets .entry)) (now (widths .entry)) (now (bytes .entry))) p t ⌝ }
+{
+    let length = s.length;
+    if length < 2 {
+        return Got::Value(t);
+    }
+    if length - 2 < p {
+        return Got::Value(t);
+    }
+    match get(s, starts, bases, offsets, widths, bytes, p + 1) {
+        Got::Value(next) => Got::Value(index_stream::least(next, t)),
+        Got::Refused(e) => Got::Refused(e),
+    }
+}
+
+// The first position whose value is not below v, found by halving; the length if there is none.
+pub fn bisect_left(
+    s: State,
+    starts: &[u64],
+    bases: &[u64],
+    offsets: &[u64],
+    widths: &[u8],
+    bytes: &[u8],
+    v: u64,
+) -> Got
+    ensures { λ r. ⌜ answerOf r ≡ bisectRule (index s (now (starts .entry)) (now (bases .entry)) (now (offsets .entry)) (now (widths .entry)) (now (bytes .entry))) v ⌝ }
+{
+    if !tables::counts_hold(s, starts, bases, offsets, widths, bytes) {
+        return Got::Refused(Refusal::Counts);
+    }
+    if s.length == 0 {
+        return Got::Value(0);
+    }
+    let k = index_stream::bisect_right(bases, s.segments, v);
+    if k == 0 {
+        return Got::Value(0);
+    }
+    bisect_in(s, starts, bases, offsets, widths, bytes, k - 1, v)
+}
+
+// The same, searched in segment k.
+fn bisect_in(
+    s: State,
+    starts: &[u64],
+    bases: &[u64],
+    offsets: &[u64],
+    widths: &[u8],
+    bytes: &[u8],
+    k: u64,
+    v: u64,
+) -> Got
+    requires { ⌜ (countsHold (index s (now starts) (now bases) (now offsets) (now widths) (now bytes)) ≡ true) × (k < s .segments) ⌝ }
+    ensures { λ r. ⌜ answerOf r ≡ bisectIn (index s (now (starts .entry)) (now (bases .entry)) (now (offsets .entry)) (now (widths .entry)) (now (bytes .entry))) k v ⌝ }
+{
+    let start = starts[k as usize];
+    let base = bases[k as usize];
+    let offset = offsets[k as usize];
+    if s.length <= start {
+        return Got::Refused(Refusal::Damaged);
+    }
+    if base == v {
+        return Got::Value(start);
+    }
+    if v < base {
+        return Got::Refused(Refusal::Damaged);
+    }
+    let Width::Of(w) = tables::width_of(s, widths, k) else {
+        return Got::Value(start + 1);
+    };
+    let end = tables::entry_or(offsets, s.segments, k + 1, s.used);
+    delta_search(s, bytes, start, offset, end, v - base, w)
+}
+
+// The deltas of a segment, from `offset` to `end`, searched for the first not below `gap`.
+fn delta_search(s: State, bytes: &[u8], start: u64, offset: u64, end: u64, gap: u64, w: u8) -> Got
+    requires { ⌜ (1 ≤ s .minimum) × (s .used ≤ length (now bytes)) × (start < s .length) ⌝ }
+    ensures { λ r. ⌜ answerOf r ≡ deltaSearch (s .minimum) (s .used) (s .length) (now (bytes .entry)) start offset end gap w ⌝ }
+{
+    let width = w as u64;
+    if width < s.minimum {
+        return Got::Refused(Refusal::Damaged);
+    }
+    if 8 < width {
+        return Got::Refused(Refusal::Damaged);
+    }
+    if end < offset {
+        return Got::Refused(Refusal::Damaged);
+    }
+    if s.used < end {
+        return Got::Refused(Refusal::Damaged);
+    }
+    let n = (end - offset) / width;
+    if s.length - start - 1 < n {
+        return Got::Refused(Refusal::Damaged);
+    }
+    let low = delta::count_below(bytes, offset, width, n, gap);
+    Got::Value(start + 1 + low)
+}
+
+// The answer of bisect_left, raised to at least a and lowered to at most b.
+pub fn bisect_range_left(
+    s: State,
+    starts: &[u64],
+    bases: &[u64],
+    offsets: &[u64],
+    widths: &[u8],
+    bytes: &[u8],
+    a: u64,
+    b: u64,
+    v: u64,
+) -> Got
+    ensures { λ r. ⌜ answerOf r ≡ bisectRangeRule (index s (now (starts .entry)) (now (bases .entry)) (now (offsets .entry)) (now (widths .entry)) (now (bytes .entry))) a b v ⌝ }
+{
+    if let Checked::Refused(e) = tables::check_range(s, starts, bases, offsets, widths, bytes, a, b) {
+        return Got::Refused(e);
+    }
+    match bisect_left(s, starts, bases, offsets, widths, bytes, v) {
+        Got::Value(k) => Got::Value(clamp(k, a, b)),
+        Got::Refused(e) => Got::Refused(e),
+    }
+}
+
+// k, raised to at least a and lowered to at most b.
+fn clamp(k: u64, a: u64, b: u64) -> u64
+    requires { ⌜ a ≤ b ⌝ }
+    ensures { λ r. ⌜ r ≡ min b (max a k) ⌝ }
+{
+    if k < a {
+        return a;
+    }
+    if b < k {
+        return b;
+    }
+    k
+}

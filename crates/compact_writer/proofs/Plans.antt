@@ -1,0 +1,75 @@
+-- Why push's stores are in bounds, and why doing what the plan says is the rule.
+use Prim.Native.Nat.{ℕ, _+_, _-_, _≤_, _<_}
+use mathlib.Core.List.{List, [], _∷_}
+use mathlib.Core.Path.{_≡_, sym, ap, _∙_, subst}
+use native.Mathlib.Omega.{arith}
+use lib.Dec.{ltb, eqb}
+use lib.ListN.{length}
+use Rattle.rules.specs.declared.Pushed.{Pushed}
+use Rattle.rules.specs.Words.{Facts, _≤?_}
+use Rattle.rules.specs.Record.{Index, segmentsOf, widthsOf, usedOf, lastOf, roomOf, countsHold}
+use Rattle.rules.specs.Push.{Plan, refuse, segment, first, more, segmentPlan, firstPlan, nextPlan, planOf, Outcome, effect, pushRule}
+use Rattle.rules.specs.Refusals.{outcomeOf}
+use Rattle.laws.specs.Orders.{ordersOf}
+use Rattle.laws.proofs.Tests.{pick-case, if-case}
+use Rattle.laws.proofs.Counts.{counts-facts}
+use Rattle.laws.proofs.Widths.{width-most}
+use Rattle.compact_writer.specs.Plans.{planned}
+use Rattle.compact_writer.specs.declared.Plan as code
+
+-- what holds where a plan is not a refusal: the counts rule, and room for what it appends
+abbrev pub Bounds : Index → Plan → Type 0
+Bounds x (refuse e) = Unit {0}
+Bounds x segment = Facts (ordersOf x) × (segmentsOf x < length (x .starts)) × (segmentsOf x < length (x .bases)) × (segmentsOf x < length (x .offsets))
+Bounds x (first d n) = Facts (ordersOf x) × (widthsOf x < length (x .widths)) × (usedOf x + n ≤ length (x .bytes)) × (n ≤ 8)
+Bounds x (more d w) = Facts (ordersOf x) × (usedOf x + w ≤ length (x .bytes))
+
+module _ (x : Index) (c : Facts (ordersOf x)) where
+  -- a segment that is planned has room
+  segment-bounds : Bounds x (segmentPlan (x .state) (roomOf x))
+  unfolding segmentPlan
+  segment-bounds = if-case (Bounds x) _ (λ f. (c, f .1 .0, f .1 .1 .0, f .1 .1 .1 .0)) (λ f. tt)
+
+  -- a first delta that is planned has room, its width too
+  first-bounds : (base v : ℕ) → Bounds x (firstPlan (x .state) (roomOf x) base v)
+  unfolding firstPlan
+  first-bounds base v =
+      if-case (Bounds x) (base ≤? v ∷ [])
+      (λ f. if-case (Bounds x) _
+      (λ f2. if-case (Bounds x) _
+      (λ f3. let m = width-most (v - base) in (c, f2 .0, f3 .0, omega arith))
+      (λ n. tt)) (λ n. tt)) (λ n. tt)
+
+  -- so has a further delta, and a segment that it starts
+  next-bounds : (base width v : ℕ) → Bounds x (nextPlan (x .state) (roomOf x) base width v)
+  unfolding nextPlan
+  next-bounds base width v =
+      if-case (Bounds x) _
+      (λ f. if-case (Bounds x) _
+      (λ f2. if-case (Bounds x) _
+      (λ f3. if-case (Bounds x) _ (λ f4. (c, f4 .0)) (λ n. tt))
+      (λ n. segment-bounds)) (λ n. tt)) (λ n. tt)
+
+-- whatever the rule plans has room
+pub plan-bounds : (x : Index) (v : ℕ) → Bounds x (planOf x v)
+unfolding planOf
+plan-bounds x v =
+    pick-case (Bounds x) (countsHold x)
+    (λ h.
+    let c = counts-facts x h in
+    pick-case (Bounds x) (eqb (segmentsOf x) 0) (λ e. segment-bounds x c)
+    (λ e. pick-case (Bounds x) (ltb (lastOf x) (widthsOf x)) (λ e2. next-bounds x c _ _ v) (λ e2. first-bounds x c _ v)))
+    (λ h. tt)
+
+-- what the code plans has room: p is what it was told, q the arm it took
+pub bounds : (x : Index) (v : ℕ) (p q : code.Plan) → planned p ≡ planOf x v → p ≡ q → Bounds x (planned q)
+bounds x v p q e k = subst (Bounds x) (sym e ∙ ap planned k) (plan-bounds x v)
+
+-- an outcome that is the effect of the arm taken is the rule's
+pub push-at : (x : Index) (v : ℕ) (o : Outcome) (p q : code.Plan) → planned p ≡ planOf x v → p ≡ q → o ≡ effect x v (planned q) → o ≡ pushRule x v
+unfolding pushRule
+push-at x v o p q e k h = h ∙ ap (effect x v) (ap planned (sym k) ∙ e)
+
+-- outcomes with the same answer and the same tables are the same
+pub same : {p q : Pushed} {a a' b b' o o' w w' d d' : List ℕ} → p ≡ q → a ≡ a' → b ≡ b' → o ≡ o' → w ≡ w' → d ≡ d' → outcomeOf p a b o w d ≡ outcomeOf q a' b' o' w' d'
+same hp ha hb ho hw hd = rw (hp, ha, hb, ho, hw, hd)

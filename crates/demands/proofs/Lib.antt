@@ -1,0 +1,17 @@
+pub mod Compare
+pub mod WellFormed
+pub mod Bounds
+pub mod Holds
+pub mod NewSegment
+pub mod NewDelta
+pub mod Push
+pub mod Run
+pub mod Search
+pub mod Get
+pub mod Bisect
+pub mod Ranges
+pub mod Walks
+pub mod Room
+pub mod DeltaRun
+pub mod Undamaged
+pub mod Demands
