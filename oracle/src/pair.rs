@@ -1,6 +1,7 @@
 //! The original and an engine side by side, given the same calls.
 
 use crate::engine::{Engine, State, Tables};
+use crate::model::Model;
 use crate::original::{self, Call, Original, Said};
 use crate::tally::{Class, Input, Tally};
 
@@ -29,10 +30,18 @@ pub fn spare_tables(values: usize) -> Tables {
     }
 }
 
-/// Calls an engine as the original is called: a range gives its values, an iterator its whole walk.
+/// Calls an engine as the original is called.
 pub fn ask(engine: &dyn Engine, state: &mut State, tables: &mut Tables, call: Call) -> Said {
+    match call {
+        Call::Push(v) => engine.push(state, tables, v).map_or_else(Said::Refused, |position| Said::Values(vec![position])),
+        _ => read(engine, state, tables, call),
+    }
+}
+
+/// Any call but a push. A range gives its values, an iterator its whole walk.
+fn read(engine: &dyn Engine, state: &State, tables: &Tables, call: Call) -> Said {
     let answer = match call {
-        Call::Push(v) => engine.push(state, tables, v).map(|position| vec![position]),
+        Call::Push(_) => unreachable!("no read"),
         Call::Length => engine.length(state, tables).map(|length| vec![length]),
         Call::Size => engine.size(state, tables).map(|size| vec![size]),
         Call::Get(p) => engine.get(state, tables, p).map(|value| vec![value]),
@@ -110,22 +119,25 @@ impl<'e> Pair<'e> {
         Input::new(&self.values, self.minimum, self.original.block(), call)
     }
 
-    /// Asks both, and counts. Answers what the original said where the call is on the domain, a ranged bisect's answer moved into its range.
+    /// Asks both, and counts. On the domain the original is right (a ranged bisect's answer moved into its range), and what it said is
+    /// handed back; elsewhere the model is.
     pub fn ask(&mut self, tally: &mut Tally, call: Call) -> Option<Said> {
         self.original.cut_short();
         let rust = self.original.ask(call);
         let cut_short = self.original.cut_short();
         let class = self.class(call, cut_short);
+        let model = class.map(|_| self.ask_model(call));
         let ours = ask(self.engine, &mut self.state, &mut self.tables, call);
         let input = || self.input(call);
-        let judged = match (class, call, &rust) {
-            (Some(class), ..) => {
-                tally.outside(class, input, &rust, &ours);
+        let judged = match (class.zip(model), call, &rust) {
+            (Some((class, model)), ..) => {
+                tally.outside(class, input, &rust, &ours, &model);
                 None
             }
             (None, Call::BisectRangeLeft(a, b, _), Said::Values(answer)) => {
-                tally.outside(Class::BisectOutside, input, &rust, &ours);
-                Some(Said::Values(vec![answer[0].max(a).min(b)]))
+                let moved = Said::Values(vec![answer[0].max(a).min(b)]);
+                tally.outside(Class::BisectOutside, input, &rust, &ours, &moved);
+                Some(moved)
             }
             _ => Some(rust),
         };
@@ -137,6 +149,14 @@ impl<'e> Pair<'e> {
             self.values.push(value);
         }
         judged
+    }
+
+    /// What the model says here. It works on a copy.
+    fn ask_model(&self, call: Call) -> Said {
+        match call {
+            Call::Push(_) => ask(&Model, &mut self.state.clone(), &mut self.tables.clone(), call),
+            _ => read(&Model, &self.state, &self.tables, call),
+        }
     }
 
     /// Pushes, and compares the tables, unless the original took what ours refused.
