@@ -273,7 +273,16 @@ pub fn bisect_range_left(
 ) -> Got
     ensures { λ r. ⌜ answerOf r ≡ bisectRangeRule (index s (now (starts .entry)) (now (bases .entry)) (now (offsets .entry)) (now (widths .entry)) (now (bytes .entry))) a b v ⌝ }
 {
-    if let Checked::Refused(e) = tables::check_range(s, starts, bases, offsets, widths, bytes, a, b) {
+    if let Checked::Refused(e) = tables::check_range(
+        s,
+        starts,
+        bases,
+        offsets,
+        widths,
+        bytes,
+        a,
+        b,
+    ) {
         return Got::Refused(e);
     }
     match bisect_left(s, starts, bases, offsets, widths, bytes, v) {

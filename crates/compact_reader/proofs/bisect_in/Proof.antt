@@ -53,7 +53,7 @@ add-t24 c = search needs
 
 returns-4 : tie.Need-returns-4
 unfolding bisectIn
-returns-4 c = 
+returns-4 c =
     let w = width-absent _ _ _ (sym (c .before .before .width-of .ensures) ∙ c .enum-told .given .1) in
     rw (lt-leb _ _ (c .before .before .before .before .before .if1 .left), ne-eqb _ _ (c .before .before .before .before .if2 .left), le-ltb _ _ (c .before .before .before .if3 .left), w, bisectIn)
 
@@ -68,7 +68,7 @@ delta-search-requires c κs = omega (arith, counts-facts _ (c .before .before .b
 
 returns-5 : tie.Need-returns-5
 unfolding bisectIn
-returns-5 c = 
+returns-5 c =
     let w = width-there _ _ _ _ (sym (c .before .before .before .before .before .width-of .ensures) ∙ c .before .before .before .w .given .1) in
     c .delta-search .ensures ∙ rw (lt-leb _ _ (c .before .before .before .before .before .before .before .before .if1 .left), ne-eqb _ _ (c .before .before .before .before .before .before .before .if2 .left), le-ltb _ _ (c .before .before .before .before .before .before .if3 .left), w .0, w .1, c .before .entry-or .ensures, bisectIn)
 

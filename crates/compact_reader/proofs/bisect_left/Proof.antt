@@ -32,7 +32,7 @@ sub-bisect-in : tie.Need-sub-bisect-in
 sub-bisect-in c = search needs
 
 bisect-in-requires : tie.Need-bisect-in-requires
-bisect-in-requires c κs = 
+bisect-in-requires c κs =
     let a = c .before .before .before .before .before .before .before .before .before .before .before .args in
     (sym (c .before .before .before .before .before .counts-hold .ensures) ∙ not-false _ (c .before .before .before .before .if1 .left), omega (arith, c .before .bisect-right .ensures, halving-edge (atMost (now (a .bases)) (a .v)) (a .s .segments) .to))
 

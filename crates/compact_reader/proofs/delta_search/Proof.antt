@@ -41,7 +41,7 @@ unfolding deltaSearch
 returns-5 c = sym (left _ _ _ (λ f. omega arith))
 
 count-below-requires : tie.Need-count-below-requires
-count-below-requires c κs = 
+count-below-requires c κs =
     let a = c .before .before .before .before .before .before .before .before .before .args in
     omega (arith, div-mul-le-self (a .end - a .offset) (a .w))
 
@@ -49,7 +49,7 @@ add-t16 : tie.Need-add-t16
 add-t16 c = search needs
 
 add-t17 : tie.Need-add-t17
-add-t17 c = 
+add-t17 c =
     let a = c .before .before .before .before .before .before .before .before .before .before .args in
     omega (arith, halving-edge (deltaBelow (now (a .bytes)) (a .offset) (a .w) (a .gap)) ((a .end - a .offset) / a .w) .to)
 

@@ -11,13 +11,13 @@ use Rattle.compact_reader.proofs.target_end.Tie as tie
 
 returns : tie.Need-returns
 unfolding targetEnd
-returns c = 
+returns c =
     let a = c .before .before .before .before .before .before .args in
     rw (lt-ltb (a .s .length) (a .p + 2) (omega arith), targetEnd)
 
 returns-2 : tie.Need-returns-2
 unfolding targetEnd
-returns-2 c = 
+returns-2 c =
     let a = c .before .before .before .before .before .before .before .args in
     rw (lt-ltb (a .s .length) (a .p + 2) (omega arith), targetEnd)
 
@@ -38,13 +38,13 @@ enum-known-e c = search needs
 
 returns-3 : tie.Need-returns-3
 unfolding targetEnd
-returns-3 c = 
+returns-3 c =
     let a = c .before .before .before .before .before .before .before .before .before .before .before .before .args in
     rw (le-ltb (a .s .length) (a .p + 2) (omega arith), sym (c .before .before .before .before .get .ensures) ∙ ap answerOf (c .before .before .next .given .1), c .least .ensures, targetEnd)
 
 returns-4 : tie.Need-returns-4
 unfolding targetEnd
-returns-4 c = 
+returns-4 c =
     let a = c .before .before .before .before .before .before .before .before .before .before .before .args in
     rw (le-ltb (a .s .length) (a .p + 2) (omega arith), sym (c .before .before .before .get .ensures) ∙ ap answerOf (c .before .e .given .1), targetEnd)
 

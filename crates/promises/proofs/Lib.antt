@@ -1,0 +1,14 @@
+pub mod Deciding
+pub mod CountsRule
+pub mod Reading
+pub mod Push
+pub mod Steps
+pub mod Audited
+pub mod Exactly
+pub mod One
+pub mod Stores
+pub mod Plans
+pub mod Ranges
+pub mod Stays
+pub mod Answers
+pub mod Examples
