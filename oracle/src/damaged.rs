@@ -194,8 +194,8 @@ impl Damaged {
             data: vec![0; 65_600],
         };
         let mut copy = tables.clone();
-        for segments in [65_534, 65_535, 65_536] {
-            let state = State { minimum: 1, length: 2 * segments, segments, widths: segments, used: segments };
+        for (segments, widths) in (65_534..=65_536).flat_map(|segments| [(segments, segments), (segments, segments - 1)]) {
+            let state = State { minimum: 1, length: segments + widths, segments, widths, used: widths };
             for value in [u64::MAX, (segments - 1) << 8] {
                 self.push(engine, state, &mut tables, &mut copy, value);
             }
