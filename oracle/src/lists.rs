@@ -126,7 +126,7 @@ fn list_by_chance(engine: &dyn Engine, block: usize, minimum: u64, chance: &mut 
         reads_by_chance(&mut pair, 4, chance, tally);
     }
     reads_by_chance(&mut pair, 60, chance, tally);
-    if length > 0 {
+    if pair.length() > 0 {
         let later: Vec<u64> = (0..8).map(|k| last.saturating_add(k << (8 * (k / 2)))).collect();
         pair.walk_while_pushing(tally, chance.below(pair.length()), pair.length(), &later);
     }

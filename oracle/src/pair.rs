@@ -169,10 +169,11 @@ impl<'e> Pair<'e> {
         judged
     }
 
-    /// Compares a walk step by step, with a push after each step while there are values to push.
+    /// Compares a walk over a range on the domain step by step, with a push after each step while there are values to push.
+    /// Where ours does not open, its walk is empty.
     pub fn walk_while_pushing(&mut self, tally: &mut Tally, start: u64, end: u64, values: &[u64]) {
         let mut steps = self.original.steps(start, end);
-        let mut cursor = self.engine.iter(&self.state, &self.tables, start, end).expect("a range on the domain");
+        let mut cursor = self.engine.iter(&self.state, &self.tables, start, end).unwrap_or_default();
         let mut values = values.iter();
         loop {
             let rust = steps();
