@@ -25,10 +25,10 @@ pub fn length(
 ) -> Got
     ensures { λ r. ⌜ answerOf r ≡ lengthRule (index s (now (starts .entry)) (now (bases .entry)) (now (offsets .entry)) (now (widths .entry)) (now (bytes .entry))) ⌝ }
 {
-    if !tables::counts_hold(s, starts, bases, offsets, widths, bytes) {
-        return Got::Refused(Refusal::Counts);
+    if tables::counts_hold(s, starts, bases, offsets, widths, bytes) {
+        return Got::Value(s.length);
     }
-    Got::Value(s.length)
+    Got::Refused(Refusal::Counts)
 }
 
 // How many bytes the index takes: three numbers a segment, its widths and its data.
@@ -175,7 +175,7 @@ fn target_end(
     }
 }
 
-// The first position whose value is not below v, found by halving; the length if there is none.
+// The first position whose value is not below v, or the length if there is none, as halving finds it: exact where the values never fall.
 pub fn bisect_left(
     s: State,
     starts: &[u64],
@@ -273,16 +273,8 @@ pub fn bisect_range_left(
 ) -> Got
     ensures { λ r. ⌜ answerOf r ≡ bisectRangeRule (index s (now (starts .entry)) (now (bases .entry)) (now (offsets .entry)) (now (widths .entry)) (now (bytes .entry))) a b v ⌝ }
 {
-    if let Checked::Refused(e) = tables::check_range(
-        s,
-        starts,
-        bases,
-        offsets,
-        widths,
-        bytes,
-        a,
-        b,
-    ) {
+    let checked = tables::check_range(s, starts, bases, offsets, widths, bytes, a, b);
+    if let Checked::Refused(e) = checked {
         return Got::Refused(e);
     }
     match bisect_left(s, starts, bases, offsets, widths, bytes, v) {

@@ -105,10 +105,11 @@ pub fn check_range(
 ) -> Checked
     ensures { λ r. ⌜ checkedOf r ≡ checkRule (index s (now (starts .entry)) (now (bases .entry)) (now (offsets .entry)) (now (widths .entry)) (now (bytes .entry))) a b ⌝ }
 {
+    let length = s.length;
     if !counts_hold(s, starts, bases, offsets, widths, bytes) {
         return Checked::Refused(Refusal::Counts);
     }
-    if s.length < b {
+    if length < b {
         return Checked::Refused(Refusal::RangeEnd);
     }
     if b < a {

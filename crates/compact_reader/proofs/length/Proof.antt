@@ -1,6 +1,5 @@
 -- The counts rule's test, decided by its branch.
 use mathlib.Core.Path.{sym, _∙_}
-use borrow.Author.Tests.{not-true, not-false}
 use Rattle.rules.specs.Push.{lengthRule}
 use borrow.Author.Needs.{needs}
 use Rattle.compact_reader.proofs.length.Statement.{statement}
@@ -11,11 +10,11 @@ counts-hold-requires c κs = search needs
 
 returns : tie.Need-returns
 unfolding lengthRule
-returns c = rw (sym (c .before .counts-hold .ensures) ∙ not-true _ (c .if1 .taken), lengthRule)
+returns c = rw (sym (c .before .counts-hold .ensures) ∙ c .if1 .taken, lengthRule)
 
 returns-2 : tie.Need-returns-2
 unfolding lengthRule
-returns-2 c = rw (sym (c .before .counts-hold .ensures) ∙ not-false _ (c .if1 .left), lengthRule)
+returns-2 c = rw (sym (c .before .counts-hold .ensures) ∙ c .if1 .left, lengthRule)
 
 pub length-spec : {M : Type 1} → statement M
 length-spec = tie.close (tie.spec counts-hold-requires returns returns-2)

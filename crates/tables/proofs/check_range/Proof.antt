@@ -15,15 +15,15 @@ returns c = rw (sym (c .before .counts-hold .ensures) ∙ not-true _ (c .if1 .ta
 
 returns-2 : tie.Need-returns-2
 unfolding checkRule
-returns-2 c = rw (sym (c .before .before .before .counts-hold .ensures) ∙ not-false _ (c .before .before .if1 .left), lt-leb _ _ (c .if2 .taken), checkRule)
+returns-2 c = rw (sym (c .before .before .counts-hold .ensures) ∙ not-false _ (c .before .if1 .left), lt-leb _ _ (c .if2 .taken), checkRule)
 
 returns-3 : tie.Need-returns-3
 unfolding checkRule
-returns-3 c = rw (sym (c .before .before .before .before .counts-hold .ensures) ∙ not-false _ (c .before .before .before .if1 .left), le-leb _ _ (c .before .if2 .left), lt-leb _ _ (c .if3 .taken), checkRule)
+returns-3 c = rw (sym (c .before .before .before .counts-hold .ensures) ∙ not-false _ (c .before .before .if1 .left), le-leb _ _ (c .before .if2 .left), lt-leb _ _ (c .if3 .taken), checkRule)
 
 returns-4 : tie.Need-returns-4
 unfolding checkRule
-returns-4 c = rw (sym (c .before .before .before .before .counts-hold .ensures) ∙ not-false _ (c .before .before .before .if1 .left), le-leb _ _ (c .before .if2 .left), le-leb _ _ (c .if3 .left), checkRule)
+returns-4 c = rw (sym (c .before .before .before .counts-hold .ensures) ∙ not-false _ (c .before .before .if1 .left), le-leb _ _ (c .before .if2 .left), le-leb _ _ (c .if3 .left), checkRule)
 
 pub check-range-spec : {M : Type 1} → statement M
 check-range-spec = tie.close (tie.spec counts-hold-requires returns returns-2 returns-3 returns-4)

@@ -1,0 +1,2 @@
+mod Says2
+mod Moves

@@ -1,0 +1,77 @@
+-- The walk's segment is the search's, since the starts never fall; otherwise the search says it itself.
+use Prim.Native.Nat.{_+_, _<_}
+use native.Mathlib.Omega.{arith}
+use native.Mathlib.Nat.{le-trans}
+use lib.Dec.{leb, ltb}
+use lib.ListN.{getD}
+use denote.Ref.{now}
+use borrow.Author.Tests.{ltb-true, leb-true}
+use Rattle.laws.proofs.Tests.{both}
+use Rattle.compact_range.specs.Values.{Rises}
+use Rattle.compact_range.proofs.Rising.{rises-finds, below-next}
+use borrow.Author.Needs.{needs}
+use Rattle.compact_range.proofs.find.Statement.{statement}
+use Rattle.compact_range.proofs.find.Tie as tie
+
+-- the starts rise, and segment k is there
+walks : (c : tie.Then1) → let a = c .before .before .args in Rises (now (a .starts)) (a .n) × (a .k < a .n)
+walks c =
+    let s = c .before .before in
+    let g = both (s .args .rising) (ltb (s .args .k) (s .args .n)) (c .if1 .taken) in
+    (s .pre .2 (g .0), ltb-true (s .args .k) (s .args .n) (g .1))
+
+add-entry-or : tie.Need-add-entry-or
+add-entry-or c = omega (arith, walks c .1)
+
+entry-or-requires : tie.Need-entry-or-requires
+entry-or-requires c κs = search needs
+
+mul-if2 : tie.Need-mul-if2
+mul-if2 c = omega (arith, walks (c .before) .1)
+
+shared-slice-read-if2 : tie.Need-shared-slice-read-if2
+shared-slice-read-if2 c = omega (arith, walks (c .before .before) .1)
+
+add-t17 : tie.Need-add-t17
+add-t17 c = omega (arith, walks (c .before .before .before) .1)
+
+least-requires : tie.Need-least-requires
+least-requires c κs = search needs
+
+returns : tie.Need-returns
+returns c =
+    let n = c .before .before .before in
+    let t = n .before in
+    let s = t .before .before in
+    let starts = now (s .args .starts) in
+    let g = both (leb (getD starts (s .args .k) 0) (s .args .p)) (ltb (s .args .p) (n .entry-or .result)) (c .before .if2 .taken) in
+    let here = leb-true (getD starts (s .args .k) 0) (s .args .p) (g .0) in
+    let next = ltb-true (s .args .p) (n .entry-or .result) (g .1) in
+    let r = c .least .ensures in
+    let w = walks t in
+    record {
+      after = omega (arith, next, r, s .pre .1);
+      within = omega (arith, r);
+      stays = λ u l h. rises-finds starts (s .args .n) (s .args .k) u (w .0) (w .1) (le-trans here l)
+          (below-next starts (s .args .n) (s .args .k + 1) (s .args .limit) (n .entry-or .result) _ u (n .entry-or .ensures) r h);
+    }
+
+bisect-right-until-requires : tie.Need-bisect-right-until-requires
+bisect-right-until-requires c κs = search needs
+
+returns-2 : tie.Need-returns-2
+returns-2 c = let f = c .bisect-right-until .ensures in record { after = f .after; within = f .within; stays = f .stays }
+
+pub find-spec : {M : Type 1} → statement M
+find-spec =
+    tie.close
+    (tie.spec
+    add-entry-or
+    entry-or-requires
+    mul-if2
+    shared-slice-read-if2
+    add-t17
+    least-requires
+    returns
+    bisect-right-until-requires
+    returns-2)

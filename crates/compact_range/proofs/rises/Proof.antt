@@ -1,0 +1,73 @@
+-- The invariant: the first i starts never fall. Nothing is promised where the answer is no.
+use Prim.Native.Nat.{_-_, _≤_}
+use mathlib.Core.Path.{_≡_, refl}
+use native.Mathlib.Omega.{arith}
+use denote.Ref.{now}
+use Rattle.laws.proofs.Tests.{false-not-true}
+use Rattle.compact_range.specs.Values.{Rises}
+use Rattle.compact_range.proofs.Rising.{rises-more}
+use Rattle.compact_range.proofs.rises.Statement.{statement}
+use Rattle.compact_range.proofs.rises.Tie as tie
+
+abbrev Inv-loop : tie.InvT-loop
+Inv-loop starts n positions i₀ i = (1 ≤ i) × Rises starts i
+
+abbrev μ-loop : tie.MeasureT-loop
+μ-loop starts n positions i₀ i = n - i
+
+returns : tie.Need-returns Inv-loop μ-loop
+returns c = λ e. false-not-true _ e refl
+
+loop-holds : tie.Need-loop-holds Inv-loop μ-loop
+loop-holds c = (omega arith, λ i j l h. let e : i ≡ j = omega arith in rw e (omega arith))
+
+mul-if3 : tie.Need-mul-if3 Inv-loop μ-loop
+mul-if3 c = omega arith
+
+shared-slice-read-if3 : tie.Need-shared-slice-read-if3 Inv-loop μ-loop
+shared-slice-read-if3 c = omega arith
+
+sub-if3 : tie.Need-sub-if3 Inv-loop μ-loop
+sub-if3 c = omega arith
+
+mul-if3-2 : tie.Need-mul-if3-2 Inv-loop μ-loop
+mul-if3-2 c = omega arith
+
+shared-slice-read-if3-2 : tie.Need-shared-slice-read-if3-2 Inv-loop μ-loop
+shared-slice-read-if3-2 c = omega arith
+
+add-i : tie.Need-add-i Inv-loop μ-loop
+add-i c = omega arith
+
+loop-less : tie.Need-loop-less Inv-loop μ-loop
+loop-less c = omega arith
+
+loop-again : tie.Need-loop-again Inv-loop μ-loop
+loop-again c =
+    let l = c .before .before .before .before .loop in
+    (omega arith, rises-more (now (c .before .before .before .before .before .before .args .starts)) (l .i) (l .inv .0) (l .inv .1) (c .if3 .left))
+
+returns-2 : tie.Need-returns-2 Inv-loop μ-loop
+returns-2 c = λ e i j l h. c .before .loop .inv .1 i j l (omega arith)
+
+returns-3 : tie.Need-returns-3 Inv-loop μ-loop
+returns-3 c = λ e. false-not-true _ e refl
+
+pub rises-spec : {M : Type 1} → statement M
+rises-spec =
+    tie.close
+    (tie.spec
+    Inv-loop
+    μ-loop
+    returns
+    loop-holds
+    mul-if3
+    shared-slice-read-if3
+    sub-if3
+    mul-if3-2
+    shared-slice-read-if3-2
+    add-i
+    loop-less
+    loop-again
+    returns-2
+    returns-3)

@@ -1,0 +1,2 @@
+mod Runs
+mod Counts
