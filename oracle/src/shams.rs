@@ -130,14 +130,15 @@ fn segment(state: &State, tables: &Tables, p: u64) -> Option<usize> {
 /// The value of a position as if it lay in segment s, without a search.
 fn in_segment(state: &State, tables: &Tables, s: usize, p: u64) -> Answer<u64> {
     let alone = Tables {
-        starts: vec![tables.starts[s]],
+        starts: vec![0],
         bases: vec![tables.bases[s]],
         offsets: vec![tables.offsets[s]],
         widths: tables.widths.get(s).copied().into_iter().collect(),
         data: tables.data.clone(),
     };
+    let p = p - tables.starts[s];
     let widths = u64::from((s as u64) < state.widths);
-    Model.get(&State { segments: 1, widths, ..*state }, &alone, p)
+    Model.get(&State { length: p + 1, segments: 1, widths, ..*state }, &alone, p).map_err(|_| 10)
 }
 
 /// The last segment's base and width, if it has one.
