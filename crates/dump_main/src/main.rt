@@ -1,4 +1,4 @@
-// The dump program, with an input piece of 4,096 bytes.
+// The dump program. Its stored input is W9's.
 fn main() {
     let mut piece = [0u8; 4096];
     dump_io::run(&mut piece);
