@@ -13,7 +13,7 @@ use Rattle.rules.specs.Words.{when, unless, Answer, value, refused}
 use Rattle.rules.specs.Record.{Index, minimumOf, lengthOf, widthsOf, usedOf, start, base, offset, width, countsHold}
 use Rattle.rules.specs.Reading.{damaged, deltaRead, readIn, startsUpTo, getRule, before, reads, ranged, written, rangeRule}
 use Rattle.rules.specs.Refusals.{numberOf}
-use Rattle.laws.proofs.Tests.{false-not-true, if-case}
+use Rattle.laws.proofs.Tests.{false-not-true, when-all-case}
 use Rattle.tables.specs.declared.Checked.{Checked}
 use Rattle.tables.specs.Range.{checkedOf, checkRule}
 use Rattle.tables.proofs.Range as check
@@ -79,7 +79,7 @@ before-or (refused r) s f h e = let q : refused r ≡ damaged = f refl in let z 
 -- a delta, a read in a segment, and a get within the length
 delta-or : (m used : ℕ) (bytes : List ℕ) (base offset i w : ℕ) → OrDamaged (deltaRead m used bytes base offset i w)
 unfolding deltaRead
-delta-or m used bytes base offset i w = if-case OrDamaged _ (λ f. value-or _) (λ n e. refl)
+delta-or m used bytes base offset i w = when-all-case OrDamaged _ (λ f. value-or _) (λ n e. refl)
 
 read-or : (x : Index) (k p : ℕ) → OrDamaged (readIn x k p)
 unfolding readIn

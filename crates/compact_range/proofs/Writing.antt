@@ -14,7 +14,7 @@ use Rattle.rules.specs.Record.{Index, minimumOf, lengthOf, segmentsOf, widthsOf
 use Rattle.rules.specs.Push.{deltaAt}
 use Rattle.rules.specs.Reading.{deltaRead, readIn, getRule}
 use Rattle.laws.specs.Orders.{ordersOf}
-use Rattle.laws.proofs.Tests.{by-test, false-not-true, if-case}
+use Rattle.laws.proofs.Tests.{by-test, false-not-true, when-all-case}
 use Rattle.compact_range.specs.Values.{Stays, isValue, valueOf, ValuesIn, sums, Fits, inSegment, gets, puts, Based}
 use Rattle.compact_range.proofs.Deciding.{get-here}
 
@@ -73,7 +73,7 @@ delta-of : (m used : ℕ) (bytes : List ℕ) (base offset i w : ℕ) → isValue
     × (valueOf (deltaRead m used bytes base offset i w) ≡ base + deltaAt bytes (offset + i * w) w)
 unfolding deltaRead
 delta-of m used bytes base offset i w =
-    if-case (λ r. isValue r ≡ true → (m ≤ w) × (w ≤ 8) × (offset + i * w + w ≤ used) × (base + deltaAt bytes (offset + i * w) w < 2 ^ 64)
+    when-all-case (λ r. isValue r ≡ true → (m ≤ w) × (w ≤ 8) × (offset + i * w + w ≤ used) × (base + deltaAt bytes (offset + i * w) w < 2 ^ 64)
     × (valueOf r ≡ base + deltaAt bytes (offset + i * w) w)) _
     (λ f e. (f .0, f .1 .0, f .1 .1 .0, f .1 .1 .1 .0, refl))
     (λ n e. false-not-true false e refl)
