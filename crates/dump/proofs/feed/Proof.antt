@@ -37,7 +37,7 @@ feed-byte-requires c κs = search needs
 
 -- src/lib.rt:50:9
 add-i : tie.Need-add-i Inv-loop μ-loop
-add-i c = 
+add-i c =
     let g = c .before .before .before .before .before .before .before .before .before .before .before .before .before .before .before .before .before .before .before .before .before .before .before .before .before .good in
     let t = c .before .before .before .before .before .before .before .before .before .before .before .before .before .before .before .before .before .loop-test .taken in
     omega arith
@@ -48,7 +48,7 @@ loop-less c = search needs
 
 -- src/lib.rt:48:5
 loop-again : tie.Need-loop-again Inv-loop μ-loop
-loop-again c = 
+loop-again c =
     let piece = now (c .before .before .before .before .before .before .before .before .before .before .before .before .before .before .before .before .before .before .before .before .before .before .before .before .before .args .piece) in
     let l = c .before .before .before .before .before .before .before .before .before .before .before .before .before .before .before .before .before .before .loop in
     (search needs, search needs, search needs, search needs, search needs, search needs, rw add-one (feed-step _ _ piece (l .i) (omega arith) (c .before .before .before .before .before .before .before .before .before .before .feed-byte .ensures) ∙ l .inv .6))
@@ -75,7 +75,7 @@ same-length-5 c = search needs
 
 -- src/lib.rt:34:1
 returns : tie.Need-returns Inv-loop μ-loop
-returns c = 
+returns c =
     let l = c .before .loop in
     feed-done _ _ (l .i) (omega arith) ∙ l .inv .6
 

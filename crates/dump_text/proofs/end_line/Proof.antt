@@ -29,7 +29,7 @@ same-length c = search needs
 
 returns : tie.Need-returns
 unfolding endLine
-returns c = 
+returns c =
     let e = c .before .before .before .before .before .before .before .before .before .before .before .before .put-field .ensures in
     let f = c .before .before .before .before .before .before .before .put-field2 .ensures in
     let g = c .before .before .put .ensures in
@@ -46,7 +46,7 @@ same-length-2 c = search needs
 
 returns-2 : tie.Need-returns-2
 unfolding endLine
-returns-2 c = 
+returns-2 c =
     let e = c .before .before .number-line .ensures in
     (e .0, e .1 ∙ rw (eq-eqb _ _ (c .before .before .before .before .before .before .before .if1 .left), ne-eqb _ _ (c .before .before .before .before .before .if2 .taken), endLine))
 

@@ -23,7 +23,7 @@ same-length c = search needs
 
 returns-2 : tie.Need-returns-2
 unfolding reportLine
-returns-2 c = 
+returns-2 c =
     let e = c .before .before .end-line .ensures in
     (e .0, e .1 ∙ rw (sym (c .before .before .before .before .before .before .counts-hold .ensures) ∙ not-false _ (c .before .before .before .before .before .if1 .left), eq-eqb _ _ (c .before .before .before .before .if2 .taken), reportLine))
 
@@ -38,7 +38,7 @@ same-length-2 c = search needs
 
 returns-3 : tie.Need-returns-3
 unfolding reportLine lengthRule
-returns-3 c = 
+returns-3 c =
     let e = c .before .before .number-line .ensures in
     (e .0, e .1 ∙ rw (sym (c .before .before .before .before .before .before .before .before .counts-hold .ensures) ∙ not-false _ (c .before .before .before .before .before .before .before .if1 .left), ne-eqb _ _ (c .before .before .before .before .before .before .if2 .left), eq-eqb _ _ (c .before .before .before .before .before .if3 .taken), reportLine))
 
@@ -53,7 +53,7 @@ same-length-3 c = search needs
 
 returns-4 : tie.Need-returns-4
 unfolding reportLine
-returns-4 c = 
+returns-4 c =
     let e = c .before .before .number-line2 .ensures in
     (e .0, e .1 ∙ rw (sym (c .before .before .before .before .before .before .before .before .before .counts-hold .ensures) ∙ not-false _ (c .before .before .before .before .before .before .before .before .if1 .left), ne-eqb _ _ (c .before .before .before .before .before .before .before .if2 .left), ne-eqb _ _ (c .before .before .before .before .before .before .if3 .left), eq-eqb _ _ (c .before .before .before .before .before .if4 .taken), reportLine))
 
@@ -77,7 +77,7 @@ same-length-4 c = search needs
 
 returns-5 : tie.Need-returns-5
 unfolding reportLine sizeRule
-returns-5 c = 
+returns-5 c =
     let e = c .before .before .number-line3 .ensures in
     (e .0, e .1 ∙ rw (sym (c .before .before .before .before .before .before .before .before .before .before .before .before .before .counts-hold .ensures) ∙ not-false _ (c .before .before .before .before .before .before .before .before .before .before .before .before .if1 .left), ne-eqb _ _ (c .before .before .before .before .before .before .before .before .before .before .before .if2 .left), ne-eqb _ _ (c .before .before .before .before .before .before .before .before .before .before .if3 .left), ne-eqb _ _ (c .before .before .before .before .before .before .before .before .before .if4 .left), eq-eqb _ _ (c .before .before .before .before .before .before .before .before .if5 .taken), reportLine))
 
@@ -92,7 +92,7 @@ same-length-5 c = search needs
 
 returns-6 : tie.Need-returns-6
 unfolding reportLine
-returns-6 c = 
+returns-6 c =
     let e = c .before .before .segment-line .ensures in
     (e .0, e .1 ∙ rw (sym (c .before .before .before .before .before .before .before .before .before .before .before .counts-hold .ensures) ∙ not-false _ (c .before .before .before .before .before .before .before .before .before .before .if1 .left), ne-eqb _ _ (c .before .before .before .before .before .before .before .before .before .if2 .left), ne-eqb _ _ (c .before .before .before .before .before .before .before .before .if3 .left), ne-eqb _ _ (c .before .before .before .before .before .before .before .if4 .left), ne-eqb _ _ (c .before .before .before .before .before .before .if5 .left), lt-ltb _ _ (c .before .before .before .before .if6 .taken), reportLine))
 

@@ -19,7 +19,7 @@ same-length : tie.Need-same-length
 same-length c = search needs
 
 returns : tie.Need-returns
-returns c = 
+returns c =
     let e = c .before .before .before .before .before .before .before .put-field .ensures in
     let g = c .before .before .put .ensures in
     (omega arith, g .1 ∙ ap (λ l. l ++ newline) (e .1))

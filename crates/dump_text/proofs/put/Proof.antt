@@ -47,7 +47,7 @@ loop-less c = search needs
 
 -- src/lib.rt:130:5
 loop-again : tie.Need-loop-again Inv-loop μ-loop
-loop-again c = 
+loop-again c =
     let l = c .before .before .loop in
     (search needs, simp length-set (search needs), rw add-one (put-step _ _ _ _ (l .i) (omega arith) (omega arith) (l .inv .2)))
 
@@ -61,7 +61,7 @@ same-length c = search needs
 
 -- src/lib.rt:125:1
 returns : tie.Need-returns Inv-loop μ-loop
-returns c = 
+returns c =
     let a = c .before .before .args in
     let l = c .before .loop in
     (omega arith, l .inv .2 ∙ ap (λ p. take (a .at) (now (a .out)) ++ p) (take-all (l .i) (now (a .part)) (omega arith)))

@@ -22,7 +22,7 @@ slice-aggregate-put : tie.Need-slice-aggregate-put
 slice-aggregate-put c = search needs
 
 put-requires-2 : tie.Need-put-requires-2
-put-requires-2 c κs = 
+put-requires-2 c κs =
     let e = c .before .before .before .before .before .before .put .ensures in
     let d = c .before .before .decimal .ensures in
     let most = fewest-most _ _ (omega (arith, c .before .before .before .before .before .before .before .before .before .before .fits)) (d .1 .0) in
@@ -32,7 +32,7 @@ same-length : tie.Need-same-length
 same-length c = search needs
 
 returns : tie.Need-returns
-returns c = 
+returns c =
     let a = c .before .before .before .before .before .before .before .before .before .before .before .before .before .args in
     let e = c .before .before .before .before .before .before .before .before .before .put .ensures in
     let d = c .before .before .before .before .before .decimal .ensures in

@@ -20,7 +20,7 @@ same-length : tie.Need-same-length
 same-length c = search needs
 
 returns : tie.Need-returns
-returns c = 
+returns c =
     let e = c .before .before .put .ensures in
     (omega arith, rw (c .before .before .before .before .before .enum-told .given .1) (e .1))
 
@@ -37,7 +37,7 @@ same-length-2 : tie.Need-same-length-2
 same-length-2 c = search needs
 
 returns-2 : tie.Need-returns-2
-returns-2 c = 
+returns-2 c =
     let e = c .before .before .put-field .ensures in
     (omega arith, rw (c .before .before .before .before .before .before .width .given .1) (e .1))
 
