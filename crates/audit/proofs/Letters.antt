@@ -74,12 +74,11 @@ b-room x k e =
     (λ t. let l = f .1 .1 .0 (ltb-false (k + 1) (segmentsOf x) t) in rw t l)
 
 -- C of a segment with a width: it is m to 8
-module _ (x : Index) (k w : ℕ) (has : k < widthsOf x) where
-  pub c-same : when-all (widthTests (minimumOf x) w) true false ≡ when-all (ruleC x k w) true false
-  c-same =
-      same-test _ _
-      (λ t. let f = facts-of (widthTests (minimumOf x) w) t in taken (ruleC x k w) true false (omega arith))
-      (λ t. let f = facts-of (ruleC x k w) t in taken (widthTests (minimumOf x) w) true false (f .0 has, (f .1 .0 has, tt)))
+pub c-same : (x : Index) (k w : ℕ) → k < widthsOf x → when-all (widthTests (minimumOf x) w) true false ≡ when-all (ruleC x k w) true false
+c-same x k w has =
+    same-test _ _
+    (λ t. let f = facts-of (widthTests (minimumOf x) w) t in taken (ruleC x k w) true false (omega arith))
+    (λ t. let f = facts-of (ruleC x k w) t in taken (widthTests (minimumOf x) w) true false (f .0 has, (f .1 .0 has, tt)))
 
 -- D: the next base is far enough exactly where the gap takes more than w bytes
 module _ (x : Index) (k w : ℕ) (more : k + 1 < segmentsOf x) where
@@ -101,10 +100,6 @@ module _ (x : Index) (k w : ℕ) (more : k + 1 < segmentsOf x) where
       (λ t. let l = facts-of (ruleD x k w) t .0 more in
       by-test (ltb w (byteWidth gap)) (λ u. u)
       (λ u. let n = lt-of-lt-of-le (width-holds gap (omega arith)) (pow-le-pow-right {n = 256} (lit< tt) (ltb-false w (byteWidth gap) u)) in absurd (omega arith)))
-
--- one number that is not below makes the whole false
-pub one-over : (n : ℕ) (f : ℕ → ℕ) (b i : ℕ) → i < n → b ≤ f i → allBelow n f b ≡ false
-one-over n f b i h l = by-test (allBelow n f b) (λ t. let g = all-fact n f b t i h in absurd (omega arith)) (λ t. t)
 
 -- E of a segment whose deltas lie from at to end
 module _ (x : Index) (k d w at end : ℕ) (here : at ≡ mark x k) (there : end ≡ mark x (k + 1)) where
@@ -159,6 +154,10 @@ pub e-room : (x : Index) (k d w : ℕ) → k < segmentsOf x → k < widthsOf x �
 e-room x k d w inside has e =
     let f = facts-of (ruleE x k d w) e in
     let a = f .1 .0 has in let b = f .1 .1 .0 has in let here = mark-at x k inside in omega arith
+
+-- one number that is not below makes the whole false
+pub one-over : (n : ℕ) (f : ℕ → ℕ) (b i : ℕ) → i < n → b ≤ f i → allBelow n f b ≡ false
+one-over n f b i h l = by-test (allBelow n f b) (λ t. let g = all-fact n f b t i h in absurd (omega arith)) (λ t. t)
 
 -- where any delta of this width fits, all d do
 pub f-sure : (bytes : List ℕ) (b at d w : ℕ) → at + d * w ≤ length bytes → ((i : ℕ) → i < length bytes → getD bytes i 0 < 256) → b + 256 ^ w ≤ 2 ^ 64

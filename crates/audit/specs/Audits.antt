@@ -1,5 +1,5 @@
 -- Audits worked by hand: what the rule says of an index beside what document 01 says, in one list.
-use Prim.Native.Nat.{ℕ, _+_, _-_, _^_}
+use Prim.Native.Nat.{ℕ, _-_, _^_}
 use mathlib.Core.List.{List, [], _∷_}
 use lib.ListN.{replicate}
 use Rattle.rules.specs.Record.{Index, index, state}
@@ -51,7 +51,6 @@ audits =
     ∷ audited (index (state 1 2 1 1 2) (0 ∷ []) (10 ∷ []) (0 ∷ []) (1 ∷ []) (0 ∷ 0 ∷ [])) is flaw E 0
     ∷ audited (w9With (0 ∷ 2 ∷ 4 ∷ []) (0 ∷ 256 ∷ 512 ∷ []) (0 ∷ 0 ∷ 2 ∷ []) (1 ∷ 1 ∷ []) (0 ∷ 0 ∷ [])) is flaw E 0
     ∷ audited (index (state 1 3 2 1 2) (0 ∷ 2 ∷ []) (0 ∷ 16777216 ∷ []) (0 ∷ 3 ∷ []) (3 ∷ []) (0 ∷ 0 ∷ [])) is flaw E 0
-    ∷ audited (index (state 1 3 2 2 2) (0 ∷ (2 ^ 62 + 1) ∷ []) (0 ∷ (2 ^ 32) ∷ []) (0 ∷ 0 ∷ []) (4 ∷ 1 ∷ []) (0 ∷ 0 ∷ [])) is flaw E 0
     ∷ audited (index (state 1 5 3 2 3) (0 ∷ 2 ∷ 4 ∷ []) (0 ∷ 256 ∷ 512 ∷ []) (0 ∷ 1 ∷ 2 ∷ []) (1 ∷ 1 ∷ []) (0 ∷ 0 ∷ 0 ∷ [])) is flaw E 2
     ∷ audited (index (state 1 4 2 1 2) (0 ∷ 2 ∷ []) (0 ∷ 65536 ∷ []) (0 ∷ 2 ∷ []) (2 ∷ []) (0 ∷ 1 ∷ [])) is flaw E 1
     ∷ audited (index (state 1 1 1 1 0) (0 ∷ []) (10 ∷ []) (0 ∷ []) (1 ∷ []) []) is flaw E 0

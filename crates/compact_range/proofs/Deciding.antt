@@ -116,15 +116,18 @@ values-more x a p good here q l u =
     (λ t. good q l (ltb-true q p t))
     (λ t. let g = ltb-false q p t in let e : q ≡ p = omega arith in rw e here)
 
+-- a value in front of several is a value where both are
 before-good : (g : Answer ℕ) (s : Answer (List ℕ)) → isValue g ≡ true → isValue s ≡ true → isValue (before g s) ≡ true
 before-good (value v) (value vs) e f = refl
 before-good (value v) (refused r) e f = f
 before-good (refused r) s e f = e
 
+-- and none where the first is none
 before-bad : (g : Answer ℕ) (s : Answer (List ℕ)) → isValue g ≡ false → isValue (before g s) ≡ false
-before-bad (value v) s e = let z : _≡_ {A = ℕ} 0 1 = cc in absurd (omega arith)
+before-bad (value v) s e = false-not-true true refl e
 before-bad (refused r) s e = refl
 
+-- or the others are none
 before-rest : (g : Answer ℕ) (s : Answer (List ℕ)) → isValue s ≡ false → isValue (before g s) ≡ false
 before-rest (value v) (value vs) e = e
 before-rest (value v) (refused r) e = refl

@@ -14,7 +14,7 @@ use Rattle.rules.specs.Record.{Index, minimumOf, lengthOf, segmentsOf, widthsOf
 use Rattle.rules.specs.Push.{deltaAt}
 use Rattle.rules.specs.Reading.{deltaRead, readIn, getRule}
 use Rattle.laws.specs.Orders.{ordersOf}
-use Rattle.laws.proofs.Tests.{by-test, if-case}
+use Rattle.laws.proofs.Tests.{by-test, false-not-true, when-all-case}
 use Rattle.compact_range.specs.Values.{Stays, isValue, valueOf, ValuesIn, sums, Fits, inSegment, gets, puts, Based}
 use Rattle.compact_range.proofs.Deciding.{get-here}
 
@@ -73,10 +73,10 @@ delta-of : (m used : ℕ) (bytes : List ℕ) (base offset i w : ℕ) → isValue
     × (valueOf (deltaRead m used bytes base offset i w) ≡ base + deltaAt bytes (offset + i * w) w)
 unfolding deltaRead
 delta-of m used bytes base offset i w =
-    if-case (λ r. isValue r ≡ true → (m ≤ w) × (w ≤ 8) × (offset + i * w + w ≤ used) × (base + deltaAt bytes (offset + i * w) w < 2 ^ 64)
+    when-all-case (λ r. isValue r ≡ true → (m ≤ w) × (w ≤ 8) × (offset + i * w + w ≤ used) × (base + deltaAt bytes (offset + i * w) w < 2 ^ 64)
     × (valueOf r ≡ base + deltaAt bytes (offset + i * w) w)) _
     (λ f e. (f .0, f .1 .0, f .1 .1 .0, f .1 .1 .1 .0, refl))
-    (λ n e. let z : _≡_ {A = ℕ} 0 1 = cc in absurd (omega arith))
+    (λ n e. false-not-true false e refl)
 
 module _ (x : Index) (k : ℕ) where
   -- where the delta of position q starts, with deltas of w bytes
@@ -92,6 +92,7 @@ module _ (x : Index) (k : ℕ) where
     pub fits : base x k + deltaAt (x .bytes) (place q (width x k)) (width x k) < 2 ^ 64
     pub is : valueOf (readIn x k q) ≡ base x k + deltaAt (x .bytes) (place q (width x k)) (width x k)
 
+  -- a read after the start that is a value is one
   read-delta : (q : ℕ) → start x k < q → isValue (readIn x k q) ≡ true → DeltaOf q
   unfolding readIn
   read-delta q h e =
@@ -101,7 +102,7 @@ module _ (x : Index) (k : ℕ) where
       (λ t.
       let d = delta-of (minimumOf x) (usedOf x) (x .bytes) (base x k) (offset x k) (q - start x k - 1) (width x k) (rw (l, n, t, readIn) at e) in
       record { has = t; least = d .0; most = d .1; ends = d .2; fits = d .3; is = rw (l, n, t, readIn) (d .4) })
-      (λ t. let z : false ≡ true = rw (l, n, t, readIn) at e in let y : _≡_ {A = ℕ} 0 1 = cc in absurd (omega arith))
+      (λ t. false-not-true false (rw (l, n, t, readIn) at e) refl)
 
   -- the deltas from position q to `until`, w bytes each: they are there, fit, and are the reads
   pub record RunOf (w q until : ℕ) : Type 0 where
@@ -112,6 +113,7 @@ module _ (x : Index) (k : ℕ) where
     pub fits : Fits (x .bytes) (base x k) (place q w) w (until - q)
     pub same : (j : ℕ) → j < until - q → sums (x .bytes) (base x k) (place q w) w j ≡ valueOf (readIn x k (q + j))
 
+  -- reads that are all values are such deltas
   pub run-of : (w p q until : ℕ) → width x k ≡ w → ValuesIn x k p until → p ≤ q → start x k < q → q < until → RunOf w q until
   run-of w p q until c run h l u =
       let d = read-delta q l (run q h u) in

@@ -11,7 +11,7 @@ use Rattle.rules.specs.Record.{Index, segmentsOf, widthsOf, usedOf, lastOf, roo
 use Rattle.rules.specs.Push.{Plan, refuse, segment, first, more, segmentPlan, firstPlan, nextPlan, planOf, Outcome, effect, pushRule}
 use Rattle.rules.specs.Refusals.{outcomeOf}
 use Rattle.laws.specs.Orders.{ordersOf}
-use Rattle.laws.proofs.Tests.{pick-case, if-case}
+use Rattle.laws.proofs.Tests.{when-case, when-all-case}
 use Rattle.laws.proofs.Counts.{counts-facts}
 use Rattle.laws.proofs.Widths.{width-most}
 use Rattle.compact_writer.specs.Plans.{planned}
@@ -28,15 +28,15 @@ module _ (x : Index) (c : Facts (ordersOf x)) where
   -- a segment that is planned has room
   segment-bounds : Bounds x (segmentPlan (x .state) (roomOf x))
   unfolding segmentPlan
-  segment-bounds = if-case (Bounds x) _ (λ f. (c, f .1 .0, f .1 .1 .0, f .1 .1 .1 .0)) (λ f. tt)
+  segment-bounds = when-all-case (Bounds x) _ (λ f. (c, f .1 .0, f .1 .1 .0, f .1 .1 .1 .0)) (λ f. tt)
 
   -- a first delta that is planned has room, its width too
   first-bounds : (base v : ℕ) → Bounds x (firstPlan (x .state) (roomOf x) base v)
   unfolding firstPlan
   first-bounds base v =
-      if-case (Bounds x) (base ≤? v ∷ [])
-      (λ f. if-case (Bounds x) _
-      (λ f2. if-case (Bounds x) _
+      when-all-case (Bounds x) (base ≤? v ∷ [])
+      (λ f. when-all-case (Bounds x) _
+      (λ f2. when-all-case (Bounds x) _
       (λ f3. let m = width-most (v - base) in (c, f2 .0, f3 .0, omega arith))
       (λ n. tt)) (λ n. tt)) (λ n. tt)
 
@@ -44,21 +44,21 @@ module _ (x : Index) (c : Facts (ordersOf x)) where
   next-bounds : (base width v : ℕ) → Bounds x (nextPlan (x .state) (roomOf x) base width v)
   unfolding nextPlan
   next-bounds base width v =
-      if-case (Bounds x) _
-      (λ f. if-case (Bounds x) _
-      (λ f2. if-case (Bounds x) _
-      (λ f3. if-case (Bounds x) _ (λ f4. (c, f4 .0)) (λ n. tt))
+      when-all-case (Bounds x) _
+      (λ f. when-all-case (Bounds x) _
+      (λ f2. when-all-case (Bounds x) _
+      (λ f3. when-all-case (Bounds x) _ (λ f4. (c, f4 .0)) (λ n. tt))
       (λ n. segment-bounds)) (λ n. tt)) (λ n. tt)
 
 -- whatever the rule plans has room
 pub plan-bounds : (x : Index) (v : ℕ) → Bounds x (planOf x v)
 unfolding planOf
 plan-bounds x v =
-    pick-case (Bounds x) (countsHold x)
+    when-case (Bounds x) (countsHold x)
     (λ h.
     let c = counts-facts x h in
-    pick-case (Bounds x) (eqb (segmentsOf x) 0) (λ e. segment-bounds x c)
-    (λ e. pick-case (Bounds x) (ltb (lastOf x) (widthsOf x)) (λ e2. next-bounds x c _ _ v) (λ e2. first-bounds x c _ v)))
+    when-case (Bounds x) (eqb (segmentsOf x) 0) (λ e. segment-bounds x c)
+    (λ e. when-case (Bounds x) (ltb (lastOf x) (widthsOf x)) (λ e2. next-bounds x c _ _ v) (λ e2. first-bounds x c _ v)))
     (λ h. tt)
 
 -- what the code plans has room: p is what it was told, q the arm it took

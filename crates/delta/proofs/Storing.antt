@@ -1,7 +1,7 @@
 -- Storing: what is still to be stored, stored after what was, gives the whole; and a store in a lent tail, said of the whole slice.
-use Prim.Native.Nat.{ℕ, zero, suc, _+_, _-_, _/_, _%_, _≤_, _<_}
+use Prim.Native.Nat.{ℕ, suc, _+_, _-_, _/_, _%_, _≤_, _<_}
 use mathlib.Core.List.{List, [], _∷_}
-use mathlib.Core.Path.{_≡_, refl, ap, _∙_}
+use mathlib.Core.Path.{_≡_, _∙_}
 use native.Mathlib.Omega.{arith}
 use native.Mathlib.Nat.{add-suc, add-zero}
 use lib.ListN.{length, take, set}
@@ -16,11 +16,6 @@ store-step l i d n m e = rw e
 -- nothing is left to store
 pub store-done : (l : List ℕ) (i d n : ℕ) → n ≡ 0 → l ≡ sets l i (deltaBytes n d)
 store-done l i d n e = rw e
-
--- a delta's low w bytes are w many
-pub length-bytes : (w d : ℕ) → length (deltaBytes w d) ≡ w
-length-bytes zero d = refl
-length-bytes (suc w) d = ap suc (length-bytes w (d / 256))
 
 -- a run of stores in a part, said of the whole
 pub sets-mid : (a k : ℕ) (vs l : List ℕ) (i : ℕ) → i + length vs ≤ k → putMid a k l (sets (midOf a k l) i vs) ≡ sets l (a + i) vs

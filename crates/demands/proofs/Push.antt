@@ -11,7 +11,7 @@ use borrow.Author.Tests.{ltb-true, ltb-false, eqb-true, eqb-false}
 use Rattle.rules.specs.Words.{_≤?_, _<?_, Facts}
 use Rattle.rules.specs.Record.{Index, minimumOf, lengthOf, segmentsOf, widthsOf, lastOf, base, width, roomOf, widthTests}
 use Rattle.rules.specs.Push.{needOf, Plan, refuse, segment, first, more, segmentRoom, dataRoom, segmentPlan, firstPlan, nextPlan, planOf, withSegment, withFirst, withMore}
-use Rattle.laws.proofs.Tests.{pick-case, if-case}
+use Rattle.laws.proofs.Tests.{when-case, when-all-case}
 use Rattle.laws.proofs.Widths.{width-holds, width-least, width-most}
 use Rattle.demands.specs.Terms.{RoomFor}
 use Rattle.demands.proofs.Compare.{by-less}
@@ -53,7 +53,7 @@ module _ (x : Index) (w : WellFormed x) (v : ℕ) where
   segment-allowed : widthsOf x ≡ segmentsOf x → (v < 2 ^ 64 → Gap x v) → Allowed x v (segmentPlan (x .state) (roomOf x))
   unfolding segmentPlan
   segment-allowed all gap =
-      if-case (Allowed x v) (segmentRoom (x .state) (roomOf x))
+      when-all-case (Allowed x v) (segmentRoom (x .state) (roomOf x))
       (λ f. (all, f, gap))
       (λ never. (omega arith, λ n l r. absurd (never (let s = length-least x w in omega arith))))
 
@@ -67,9 +67,9 @@ module _ (x : Index) (w : WellFormed x) (v : ℕ) where
       let b = base x (lastOf x) in
       let need = needOf (v - b) (minimumOf x) in
       let top = width-most (v - b) in
-      if-case (Allowed x v) (b ≤? v ∷ [])
-      (λ f. if-case (Allowed x v) ((widthsOf x) <? length (x .widths) ∷ [])
-      (λ f2. if-case (Allowed x v) (dataRoom (x .state) (roomOf x) need)
+      when-all-case (Allowed x v) (b ≤? v ∷ [])
+      (λ f. when-all-case (Allowed x v) ((widthsOf x) <? length (x .widths) ∷ [])
+      (λ f2. when-all-case (Allowed x v) (dataRoom (x .state) (roomOf x) need)
       (λ f3. (last, f2 .0, storable (f .0) (omega arith) (omega arith) (omega arith) f3))
       (λ never. (omega arith, λ n l r. absurd (never (omega arith)))))
       (λ never. (omega arith, λ n l r. absurd (never (omega arith)))))
@@ -86,10 +86,10 @@ module _ (x : Index) (w : WellFormed x) (v : ℕ) where
       let o = w .whole k (omega arith) in
       let o1 = o .least in
       let o2 = o .most in
-      if-case (Allowed x v) (widthTests (minimumOf x) (width x k))
-      (λ f. if-case (Allowed x v) (b ≤? v ∷ [])
-      (λ f2. if-case (Allowed x v) (needOf (v - b) (minimumOf x) ≤? width x k ∷ [])
-      (λ f3. if-case (Allowed x v) (dataRoom (x .state) (roomOf x) (width x k))
+      when-all-case (Allowed x v) (widthTests (minimumOf x) (width x k))
+      (λ f. when-all-case (Allowed x v) (b ≤? v ∷ [])
+      (λ f2. when-all-case (Allowed x v) (needOf (v - b) (minimumOf x) ≤? width x k ∷ [])
+      (λ f3. when-all-case (Allowed x v) (dataRoom (x .state) (roomOf x) (width x k))
       (λ f4. (all, refl, storable (f2 .0) some (f3 .0) o2 f4))
       (λ never. (omega arith, λ n l r. absurd (never (omega arith)))))
       (λ never. segment-allowed all
@@ -106,11 +106,11 @@ module _ (x : Index) (w : WellFormed x) (v : ℕ) where
   plan-allowed =
       let c = w .counts in
       rw (counts-hold x w)
-      (pick-case (Allowed x v) (eqb (segmentsOf x) 0)
+      (when-case (Allowed x v) (eqb (segmentsOf x) 0)
       (λ e. let z = eqb-true (segmentsOf x) 0 e in segment-allowed (omega arith) (λ h k l. absurd (omega arith)))
       (λ e.
       let z = eqb-false (segmentsOf x) 0 e in
-      pick-case (Allowed x v) (ltb (lastOf x) (widthsOf x))
+      when-case (Allowed x v) (ltb (lastOf x) (widthsOf x))
       (λ e2. let l = ltb-true (lastOf x) (widthsOf x) e2 in next-allowed (omega arith) (omega arith))
       (λ e2. let l = ltb-false (lastOf x) (widthsOf x) e2 in first-allowed (omega arith))))
 

@@ -14,7 +14,7 @@ use Rattle.rules.specs.Record.{Index, lengthOf, countsHold}
 use Rattle.rules.specs.Reading.{inRange, reads, ranged, rangeRule, cursor, iterRule, span, targetEnd, targetRule, bisectRangeRule}
 use Rattle.rules.specs.Run.{howMany, NeverFalls}
 use Rattle.laws.proofs.Tests.{by-test}
-use Rattle.demands.proofs.Compare.{value-refused}
+use Rattle.laws.proofs.Answers.{value-refused}
 use Rattle.demands.proofs.WellFormed.{WellFormed}
 use Rattle.demands.proofs.Bounds.{counts-hold}
 use Rattle.demands.proofs.Run.{Keeps}

@@ -10,8 +10,8 @@ use Rattle.rules.specs.Words.{Answer, value, refused}
 use Rattle.rules.specs.Record.{Index, lengthOf, segmentsOf, widthsOf, usedOf, roomOf}
 use Rattle.rules.specs.Push.{deltaBytes, Plan, refuse, segment, first, more, planOf, effect, pushRule}
 use Rattle.rules.specs.Run.{run, ifTaken, accepted}
+use Rattle.laws.proofs.Answers.{value-refused}
 use Rattle.demands.specs.Terms.{RoomFor}
-use Rattle.demands.proofs.Compare.{value-refused}
 use Rattle.demands.proofs.WellFormed.{WellFormed}
 use Rattle.demands.proofs.Push.{Allowed, plan-allowed}
 use Rattle.demands.proofs.Run.{run-same}

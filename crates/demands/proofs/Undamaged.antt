@@ -10,8 +10,9 @@ use Rattle.rules.specs.declared.Cursor.{Cursor}
 use Rattle.rules.specs.Words.{unless, Answer, value, refused, andThen}
 use Rattle.rules.specs.Record.{Index, lengthOf}
 use Rattle.rules.specs.Reading.{getRule, inRange, reads, written, rangeRule, Stepped, stays, moved, stepRule, targetEnd, targetRule, bisectRule, bisectRangeRule}
-use Rattle.laws.proofs.Tests.{pick-case}
-use Rattle.demands.proofs.Compare.{by-less, value-refused}
+use Rattle.laws.proofs.Tests.{when-case}
+use Rattle.laws.proofs.Answers.{value-refused}
+use Rattle.demands.proofs.Compare.{by-less}
 use Rattle.demands.proofs.WellFormed.{WellFormed}
 use Rattle.demands.proofs.Bounds.{counts-hold}
 use Rattle.demands.proofs.Get.{get-value}
@@ -56,8 +57,8 @@ module _ (x : Index) (w : WellFormed x) where
   in-range-undamaged : {A : Type 0} (a b : ℕ) (rest : Answer A) → (a ≤ b → b ≤ lengthOf x → Undamaged rest) → Undamaged (inRange x a b rest)
   in-range-undamaged a b rest f =
       rw (counts-hold x w)
-      (pick-case Undamaged (leb b (lengthOf x))
-      (λ t. pick-case Undamaged (leb a b) (λ u. f (leb-true a b u) (leb-true b (lengthOf x) t)) (λ u e. omega arith))
+      (when-case Undamaged (leb b (lengthOf x))
+      (λ t. when-case Undamaged (leb a b) (λ u. f (leb-true a b u) (leb-true b (lengthOf x) t)) (λ u e. omega arith))
       (λ t e. omega arith))
 
   -- reads within length
@@ -70,13 +71,13 @@ module _ (x : Index) (w : WellFormed x) where
   range-undamaged a b out =
       let rest = unless (leb (b - a) (length out)) (refused 8) (reads x a (b - a)) in
       written-undamaged out (inRange x a b rest)
-      (in-range-undamaged a b rest (λ h l. pick-case Undamaged (leb (b - a) (length out)) (λ t. reads-undamaged a b h l) (λ t e. omega arith)))
+      (in-range-undamaged a b rest (λ h l. when-case Undamaged (leb (b - a) (length out)) (λ t. reads-undamaged a b h l) (λ t e. omega arith)))
 
   -- a step of a walk
   pub step-undamaged : (c d : Cursor) → stepRule x c ≡ stays 10 d → ⊥
   unfolding stepRule
   step-undamaged c d =
-      pick-case (λ (s : Stepped). s ≡ stays 10 d → ⊥) (leb (c .end) (c .next))
+      when-case (λ (s : Stepped). s ≡ stays 10 d → ⊥) (leb (c .end) (c .next))
       (λ t e. let z : _≡_ {A = ℕ} 0 1 = cc in omega arith)
       (λ t. moved-undamaged c d (getRule x (c .next)) (get-undamaged (c .next)))
 
@@ -86,7 +87,7 @@ module _ (x : Index) (w : WellFormed x) where
   target-undamaged p t =
       and-then (getRule x p) _ (get-undamaged p)
       (λ from. and-then (targetEnd x p t) _
-      (pick-case Undamaged (ltb (lengthOf x) (p + 2)) (λ u. tt) (λ u. and-then (getRule x (p + 1)) _ (get-undamaged (p + 1)) (λ next. tt)))
+      (when-case Undamaged (ltb (lengthOf x) (p + 2)) (λ u. tt) (λ u. and-then (getRule x (p + 1)) _ (get-undamaged (p + 1)) (λ next. tt)))
       (λ to. tt))
 
   -- bisect_left

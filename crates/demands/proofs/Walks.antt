@@ -9,9 +9,10 @@ use borrow.Author.Tests.{le-leb, lt-leb}
 use Rattle.rules.specs.declared.Cursor.{Cursor}
 use Rattle.rules.specs.Words.{Answer, value, refused}
 use Rattle.rules.specs.Record.{Index}
-use Rattle.rules.specs.Reading.{getRule, before, reads, ranged, rangeRule, cursor, iterRule, done, gave, moved, stepRule}
+use Rattle.rules.specs.Reading.{getRule, reads, ranged, rangeRule, cursor, iterRule, done, gave, moved, stepRule}
+use Rattle.laws.proofs.Answers.{before-value}
 use Rattle.demands.specs.Terms.{Walks}
-use Rattle.demands.proofs.Compare.{by-less, value-refused}
+use Rattle.demands.proofs.Compare.{by-less}
 use Rattle.demands.proofs.Ranges.{range-within, iter-opens, range-reads}
 
 -- a step that reads is not done
@@ -23,13 +24,6 @@ moved-done c (refused n) e = let z : _≡_ {A = ℕ} 0 1 = cc in absurd (omega a
 moved-gave : (c : Cursor) (a : Answer ℕ) (v : ℕ) (next : Cursor) → moved c a ≡ gave v next → (a ≡ value v) × (next ≡ cursor (c .next + 1) (c .end))
 moved-gave c (value u) v next e = (cc, cc)
 moved-gave c (refused n) v next e = let z : _≡_ {A = ℕ} 0 1 = cc in absurd (omega arith)
-
--- an answer in front of others that give values: all are values
-before-value : (a : Answer ℕ) (r : Answer (List ℕ)) (vs : List ℕ) → before a r ≡ value vs
-    → (v : ℕ) × (us : List ℕ) × (a ≡ value v) × (r ≡ value us) × (v ∷ us ≡ vs)
-before-value (value v) (value us) vs e = (v, us, refl, refl, cc)
-before-value (value v) (refused n) vs e = value-refused (sym e)
-before-value (refused n) r vs e = value-refused (sym e)
 
 module _ (x : Index) where
   -- a step at or past end is done

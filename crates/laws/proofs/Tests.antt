@@ -19,9 +19,9 @@ false-not-true true p q = let z : _≡_ {A = ℕ} 0 1 = cc in absurd (omega arit
 false-not-true false p q = let z : _≡_ {A = ℕ} 0 1 = cc in absurd (omega arith)
 
 -- what holds of both choices holds of the choice
-pub pick-case {ℓ} : {A : Type 0} (P : A → Type ℓ) (t : Bool) {a b : A} → (t ≡ true → P a) → (t ≡ false → P b) → P (when t a b)
-pick-case P true f g = f refl
-pick-case P false f g = g refl
+pub when-case {ℓ} : {A : Type 0} (P : A → Type ℓ) (t : Bool) {a b : A} → (t ≡ true → P a) → (t ≡ false → P b) → P (when t a b)
+when-case P true f g = f refl
+when-case P false f g = g refl
 
 -- all of the first n are below, one by one
 pub all-fact : (n : ℕ) (f : ℕ → ℕ) (b : ℕ) → allBelow n f b ≡ true → (i : ℕ) → i < n → f i < b
@@ -72,12 +72,12 @@ left (t ∷ ts) a b never =
     (λ e. rw (e, when-all))
 
 -- what holds of both choices, by the facts, holds of the choice
-pub if-case {ℓ} : {A : Type 0} (P : A → Type ℓ) (ts : List Test) {a b : A} → (Facts ts → P a) → ((Facts ts → ⊥) → P b) → P (when-all ts a b)
+pub when-all-case {ℓ} : {A : Type 0} (P : A → Type ℓ) (ts : List Test) {a b : A} → (Facts ts → P a) → ((Facts ts → ⊥) → P b) → P (when-all ts a b)
 unfolding when-all
-if-case P [] f g = f tt
-if-case P (t ∷ ts) f g =
+when-all-case P [] f g = f tt
+when-all-case P (t ∷ ts) f g =
     by-test (holds t)
-    (λ e. rw (e, when-all) (if-case P ts (λ h. f (fact t e, h)) (λ never. g (λ h. never (h .1)))))
+    (λ e. rw (e, when-all) (when-all-case P ts (λ h. f (fact t e, h)) (λ never. g (λ h. never (h .1)))))
     (λ e. rw (e, when-all) (g (λ h. false-not-true (holds t) (held t (h .0)) e)))
 
 -- a list of tests that holds says its facts

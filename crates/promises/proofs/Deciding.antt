@@ -8,7 +8,8 @@ use lib.Dec.{leb, ltb, eqb}
 use borrow.Author.Tests.{leb-true, leb-false, ltb-true, ltb-false, eqb-true, eqb-false}
 use Rattle.rules.specs.Words.{when, Answer, value, refused, andThen, Test, Facts, when-all}
 use Rattle.rules.specs.Reading.{before}
-use Rattle.laws.proofs.Tests.{by-test, pick-case, if-case}
+use Rattle.laws.proofs.Tests.{by-test, when-case, when-all-case}
+use Rattle.laws.proofs.Answers.{value-refused}
 use Rattle.promises.specs.Sentences.{Sentence, _if_, Given, None, Exactly}
 use Rattle.promises.specs.Table.{Outside}
 
@@ -31,10 +32,6 @@ some-given [] e g n = g
 some-given (s ∷ t) e (inl g) n = n .0 (g .0)
 some-given (s ∷ t) e (inr g) n = some-given t e (g .1) (n .1)
 
--- a value is no refusal
-pub no-refusal {ℓ} : {A : Type 0} {P : Type ℓ} (v : A) (e : ℕ) → value v ≡ refused e → P
-no-refusal v e q = let z : _≡_ {A = ℕ} 0 1 = cc in absurd (omega arith)
-
 -- a value is one
 pub one-value : {A : Type 0} (v w : A) → value v ≡ value w → v ≡ w
 one-value v w q = cc
@@ -46,12 +43,12 @@ one-number d e q = cc
 -- an answer that is decided keeps to the sentences
 pub exactly : {A : Type 0} {t : List Sentence} {a : Answer A} → Decided t a → Exactly t a
 exactly {t} (none {v} n) = record {
-  refuses = λ e. (λ q. no-refusal v e q, λ g. absurd (some-given t e g n));
+  refuses = λ e. (λ q. value-refused q, λ g. absurd (some-given t e g n));
   answers = (λ a. n, λ m. (v, refl));
 }
 exactly {t} (given {e = d} g) = record {
   refuses = λ e. (λ q. rw (one-number d e q) at g, λ h. rw (one-given t d e g h));
-  answers = (λ a. no-refusal (a .0) d (sym (a .1)), λ m. absurd (some-given t d g m));
+  answers = (λ a. value-refused (sym (a .1)), λ m. absurd (some-given t d g m));
 }
 
 -- the first sentence applies
@@ -98,19 +95,19 @@ before-decided (given (inr d)) k = absurd (d .1)
 module _ {A : Type 0} {t : List Sentence} {p q : Answer A} where
   -- the test a < b
   pub by-lt : (a b : ℕ) → (a < b → Decided t p) → (b ≤ a → Decided t q) → Decided t (when (ltb a b) p q)
-  by-lt a b f g = pick-case (Decided t) (ltb a b) (λ e. f (ltb-true a b e)) (λ e. g (ltb-false a b e))
+  by-lt a b f g = when-case (Decided t) (ltb a b) (λ e. f (ltb-true a b e)) (λ e. g (ltb-false a b e))
 
   -- the test a ≤ b
   pub by-le : (a b : ℕ) → (a ≤ b → Decided t p) → (b < a → Decided t q) → Decided t (when (leb a b) p q)
-  by-le a b f g = pick-case (Decided t) (leb a b) (λ e. f (leb-true a b e)) (λ e. g (leb-false a b e))
+  by-le a b f g = when-case (Decided t) (leb a b) (λ e. f (leb-true a b e)) (λ e. g (leb-false a b e))
 
   -- the test a ≡ b
   pub by-eq : (a b : ℕ) → (a ≡ b → Decided t p) → ((a ≡ b → ⊥) → Decided t q) → Decided t (when (eqb a b) p q)
-  by-eq a b f g = pick-case (Decided t) (eqb a b) (λ e. f (eqb-true a b e)) (λ e. g (eqb-false a b e))
+  by-eq a b f g = when-case (Decided t) (eqb a b) (λ e. f (eqb-true a b e)) (λ e. g (eqb-false a b e))
 
   -- a list of tests
   pub by-all : (ts : List Test) → (Facts ts → Decided t p) → ((Facts ts → ⊥) → Decided t q) → Decided t (when-all ts p q)
-  by-all ts f g = if-case (Decided t) ts f g
+  by-all ts f g = when-all-case (Decided t) ts f g
 
 -- either a is above b, or what follows from a at most b
 pub or-else : (a b : ℕ) {Q : Type 0} → (a ≤ b → Q) → (b < a) ⊎ Q

@@ -12,12 +12,12 @@ use Rattle.rules.specs.Words.{value, _≤?_, _<?_}
 use Rattle.rules.specs.Record.{Index, index, minimumOf, lengthOf, segmentsOf, widthsOf, usedOf, lastOf, base, width, roomOf, widthTests, countsHold}
 use Rattle.rules.specs.Push.{Plan, refuse, segment, first, more, segmentPlan, firstPlan, nextPlan, planOf, grown, effect}
 use Rattle.rules.specs.Push as rule
-use Rattle.laws.proofs.Tests.{pick-case, if-case}
+use Rattle.laws.proofs.Tests.{when-case, when-all-case}
 use Rattle.laws.proofs.Counts.{counts-facts}
 use Rattle.laws.proofs.Widths.{width-most}
+use Rattle.laws.proofs.Answers.{value-refused}
 use Rattle.promises.specs.Table.{HasWidth, WidthDue, SegmentDue, need}
 use Rattle.promises.specs.Kept.{Kept, Appended}
-use Rattle.promises.proofs.Deciding.{no-refusal}
 use Rattle.promises.proofs.Stores.{kept-all, kept-set, kept-bytes}
 
 -- what a plan rests on
@@ -31,16 +31,16 @@ module _ (x : Index) (v : ℕ) where
   -- a new segment is planned where one is due
   segment-due : SegmentDue x v → Due x v (segmentPlan (x .state) (roomOf x))
   unfolding segmentPlan
-  segment-due due = if-case (Due x v) (rule.segmentRoom (x .state) (roomOf x)) (λ f. due) (λ never. tt)
+  segment-due due = when-all-case (Due x v) (rule.segmentRoom (x .state) (roomOf x)) (λ f. due) (λ never. tt)
 
   -- a first delta is planned where a width is due
   first-due : countsHold x ≡ true → WidthDue x → Due x v (firstPlan (x .state) (roomOf x) (base x (lastOf x)) v)
   unfolding firstPlan
   first-due c due =
       let f = counts-facts x c in let most = width-most (v - base x (lastOf x)) in
-      if-case (Due x v) (base x (lastOf x) ≤? v ∷ [])
-      (λ l. if-case (Due x v) (widthsOf x <? length (x .widths) ∷ [])
-      (λ w. if-case (Due x v) (rule.dataRoom (x .state) (roomOf x) (need x v)) (λ r. (due, refl, refl, omega arith)) (λ never. tt))
+      when-all-case (Due x v) (base x (lastOf x) ≤? v ∷ [])
+      (λ l. when-all-case (Due x v) (widthsOf x <? length (x .widths) ∷ [])
+      (λ w. when-all-case (Due x v) (rule.dataRoom (x .state) (roomOf x) (need x v)) (λ r. (due, refl, refl, omega arith)) (λ never. tt))
       (λ never. tt)) (λ never. tt)
 
   -- a further delta is planned where the current width holds it
@@ -48,10 +48,10 @@ module _ (x : Index) (v : ℕ) where
   unfolding nextPlan
   next-due has =
       let w = width x (lastOf x) in
-      if-case (Due x v) (widthTests (minimumOf x) w)
-      (λ f. if-case (Due x v) (base x (lastOf x) ≤? v ∷ [])
-      (λ l. if-case (Due x v) (need x v ≤? w ∷ [])
-      (λ g. if-case (Due x v) (rule.dataRoom (x .state) (roomOf x) w) (λ r. (has, refl, refl, g .0, f .1 .0)) (λ never. tt))
+      when-all-case (Due x v) (widthTests (minimumOf x) w)
+      (λ f. when-all-case (Due x v) (base x (lastOf x) ≤? v ∷ [])
+      (λ l. when-all-case (Due x v) (need x v ≤? w ∷ [])
+      (λ g. when-all-case (Due x v) (rule.dataRoom (x .state) (roomOf x) w) (λ r. (has, refl, refl, g .0, f .1 .0)) (λ never. tt))
       (λ never. let over : need x v ≤ w → ⊥ = λ l. never (l, tt) in segment-due (inr (has, omega arith))))
       (λ never. tt)) (λ never. tt)
 
@@ -59,10 +59,10 @@ module _ (x : Index) (v : ℕ) where
   pub plan-due : Due x v (planOf x v)
   unfolding planOf
   plan-due =
-      pick-case (Due x v) (countsHold x)
-      (λ c. pick-case (Due x v) (eqb (segmentsOf x) 0) (λ e. segment-due (inl (eqb-true (segmentsOf x) 0 e)))
+      when-case (Due x v) (countsHold x)
+      (λ c. when-case (Due x v) (eqb (segmentsOf x) 0) (λ e. segment-due (inl (eqb-true (segmentsOf x) 0 e)))
       (λ e. let some = eqb-false (segmentsOf x) 0 e in
-      pick-case (Due x v) (ltb (lastOf x) (widthsOf x))
+      when-case (Due x v) (ltb (lastOf x) (widthsOf x))
       (λ t. next-due (omega arith, ltb-true (lastOf x) (widthsOf x) t))
       (λ t. first-due c (omega arith, ltb-false (lastOf x) (widthsOf x) t))))
       (λ c. tt)
@@ -84,7 +84,7 @@ module _ (x : Index) (v : ℕ) where
 
   -- what each plan leaves
   pub plan-appended : (p : ℕ) (plan : Plan) → Due x v plan → effect x v plan .answer ≡ value p → Appended x (effect x v plan .left)
-  plan-appended p (refuse e) d q = no-refusal p e (sym q)
+  plan-appended p (refuse e) d q = value-refused (sym q)
   plan-appended p segment d q = record {
     minimum = refl;
     length = refl;

@@ -12,7 +12,7 @@ use Rattle.rules.specs.Words.{value, _≤?_, _<?_, unless-all}
 use Rattle.rules.specs.Record.{Index, minimumOf, lengthOf, segmentsOf, widthsOf, usedOf, lastOf, base, width, roomOf, segmentLimit, dataLimit, widthTests, countsHold}
 use Rattle.rules.specs.Push.{Plan, refuse, first, more, segmentPlan, firstPlan, nextPlan, planOf, effect, pushRule}
 use Rattle.rules.specs.Push as rule
-use Rattle.laws.proofs.Tests.{pick-case, if-case}
+use Rattle.laws.proofs.Tests.{when-case, when-all-case}
 use Rattle.laws.proofs.Counts.{counts-facts}
 use Rattle.promises.specs.Sentences.{Sentence}
 use Rattle.promises.specs.Table.{CountsRule, HasWidth, WidthDue, need, SegmentDue, BytesDue, lastDamaged, below, segmentRoom, widthRoom, dataRoom, pushTable}
@@ -52,7 +52,7 @@ module _ (x : Index) (v : ℕ) where
   bytes-decided : (n : ℕ) (p : Plan) → BytesDue x v n → effect x v p .answer ≡ value (lengthOf x)
       → Planned x v (dataRoom x v ∷ []) (unless-all (rule.dataRoom (x .state) (roomOf x) n) (refuse 4) p)
   bytes-decided n p due e =
-      if-case (Planned x v (dataRoom x v ∷ [])) (rule.dataRoom (x .state) (roomOf x) n)
+      when-all-case (Planned x v (dataRoom x v ∷ [])) (rule.dataRoom (x .state) (roomOf x) n)
       (λ f. rw e (pass (λ d. let q = one-due (d .0) n (d .1) due in ⊎-elim (λ over. omega arith) (λ over. omega arith) (d .2))))
       (λ never. stop (n, due, or-else (usedOf x + n) (length (x .bytes)) (λ a. let over : usedOf x + n ≤ dataLimit → ⊥ = λ b. never (a, (b, tt)) in omega arith)))
 
@@ -62,7 +62,7 @@ module _ (x : Index) (v : ℕ) where
   unfolding segmentPlan
   segment-decided c due =
       let f = counts-facts x c in let s = segmentsOf x in
-      if-case (Planned x v (from2 x v)) (rule.segmentRoom (x .state) (roomOf x))
+      when-all-case (Planned x v (from2 x v)) (rule.segmentRoom (x .state) (roomOf x))
       (λ g. go-on (λ d. ⊎-elim (λ q. omega arith) (⊎-elim (λ q. omega arith) (⊎-elim (λ q. omega arith) (λ q. omega arith))) (d .1))
       (go-on (λ d. ⊎-elim (λ q. omega arith) (λ q. omega arith) due)
       (pass (λ d. let q = one-due (d .0) 0 (d .1) (inl (due, refl)) in ⊎-elim (λ over. omega arith) (λ over. omega arith) (d .2)))))
@@ -79,9 +79,9 @@ module _ (x : Index) (v : ℕ) where
   first-decided c due =
       let f = counts-facts x c in let b = base x (lastOf x) in
       go-on (λ d. omega arith)
-      (if-case (Planned x v (from1 x v)) (b ≤? v ∷ [])
+      (when-all-case (Planned x v (from1 x v)) (b ≤? v ∷ [])
       (λ l. go-on (λ d. omega arith) (go-on (λ d. ⊎-elim (λ q. omega arith) (λ q. omega arith) (d .0))
-      (if-case (Planned x v (widthRoom x ∷ dataRoom x v ∷ [])) (widthsOf x <? length (x .widths) ∷ [])
+      (when-all-case (Planned x v (widthRoom x ∷ dataRoom x v ∷ [])) (widthsOf x <? length (x .widths) ∷ [])
       (λ room. go-on (λ d. omega arith) (bytes-decided (need x v) (first (v - b) (need x v)) (inr (inl (due, refl))) refl))
       (λ never. let full : widthsOf x < length (x .widths) → ⊥ = λ l. never (l, tt) in stop (due, omega arith)))))
       (λ never. let under : b ≤ v → ⊥ = λ l. never (l, tt) in stop (omega arith)))
@@ -92,11 +92,11 @@ module _ (x : Index) (v : ℕ) where
   unfolding nextPlan
   next-decided c has =
       let b = base x (lastOf x) in let w = width x (lastOf x) in let m = minimumOf x in
-      if-case (Planned x v (from10 x v)) (widthTests m w)
+      when-all-case (Planned x v (from10 x v)) (widthTests m w)
       (λ f. go-on (λ d. within m w (f .0) (f .1 .0) (d .1))
-      (if-case (Planned x v (from1 x v)) (b ≤? v ∷ [])
+      (when-all-case (Planned x v (from1 x v)) (b ≤? v ∷ [])
       (λ l. go-on (λ d. omega arith)
-      (if-case (Planned x v (from2 x v)) (need x v ≤? w ∷ [])
+      (when-all-case (Planned x v (from2 x v)) (need x v ≤? w ∷ [])
       (λ fits. go-on (λ d. ⊎-elim (λ q. omega arith) (λ q. omega arith) (d .0)) (go-on (λ d. omega arith)
       (bytes-decided w (more (v - b) w) (inr (inr (has, fits .0, refl))) refl)))
       (λ never. let over : need x v ≤ w → ⊥ = λ l. never (l, tt) in segment-decided c (inr (has, omega arith)))))
@@ -107,14 +107,14 @@ module _ (x : Index) (v : ℕ) where
   pub push-decided : Decided (pushTable x v) (pushRule x v .answer)
   unfolding pushRule planOf
   push-decided =
-      pick-case (Planned x v (pushTable x v)) (countsHold x)
+      when-case (Planned x v (pushTable x v)) (countsHold x)
       (λ c. let f = counts-facts x c in
       go-on (λ broken. broken (counts-rule x c))
-      (pick-case (Planned x v (from10 x v)) (eqb (segmentsOf x) 0)
+      (when-case (Planned x v (from10 x v)) (eqb (segmentsOf x) 0)
       (λ e. let z = eqb-true (segmentsOf x) 0 e in
       go-on (λ d. omega arith) (go-on (λ d. omega arith) (segment-decided c (inl z))))
       (λ e. let z = eqb-false (segmentsOf x) 0 e in
-      pick-case (Planned x v (from10 x v)) (ltb (lastOf x) (widthsOf x))
+      when-case (Planned x v (from10 x v)) (ltb (lastOf x) (widthsOf x))
       (λ t. next-decided c (omega arith, ltb-true (lastOf x) (widthsOf x) t))
       (λ t. first-decided c (omega arith, ltb-false (lastOf x) (widthsOf x) t)))))
       (λ c. stop (counts-broken x .1 c))

@@ -12,7 +12,7 @@ use Rattle.rules.specs.Words.{when, unless, Answer, value, refused, andThen, _�
 use Rattle.rules.specs.Record.{Index, minimumOf, lengthOf, widthsOf, usedOf, start, base, offset, width, mark, widthTests, countsHold, openRule}
 use Rattle.rules.specs.Push.{deltaAt, lengthRule, sizeRule}
 use Rattle.rules.specs.Reading.{runCountRule, runValueRule, damaged, deltaRead, readIn, startsUpTo, getRule, inRange, reads, written, rangeRule, iterRule, Span, span, targetEnd, targetRule, deltaSearch, bisectIn, basesUpTo, bisectRule, bisectRangeRule}
-use Rattle.laws.proofs.Tests.{by-test, pick-case}
+use Rattle.laws.proofs.Tests.{by-test, when-case}
 use Rattle.promises.specs.Sentences.{Sentence, _if_}
 use Rattle.promises.specs.Table.{Outside, counts, openTable, countsTable, runCountTable, runValueTable, position, ReadDamaged, GetDamaged, getTable, rangeSentences, rangeTable, iterTable, targetTable, SearchDamaged, BisectDamaged, bisectTable, bisectRangeTable}
 use Rattle.promises.proofs.Deciding.{Decided, none, pass, given, stop, go-on, reworded, then-decided, value-decided, by-lt, by-le, by-eq, by-all, or-else, or-outside, within, before-decided}
@@ -22,7 +22,7 @@ use Rattle.promises.proofs.CountsRule.{counts-rule, counts-broken}
 pub counts-first : {A : Type 0} (x : Index) {t : List Sentence} {a : Answer A} → (countsHold x ≡ true → Decided t a)
     → Decided (counts x ∷ t) (unless (countsHold x) (refused 9) a)
 counts-first x {t} f =
-    pick-case (Decided (counts x ∷ t)) (countsHold x)
+    when-case (Decided (counts x ∷ t)) (countsHold x)
     (λ e. go-on (λ broken. broken (counts-rule x e)) (f e))
     (λ e. stop (counts-broken x .1 e))
 

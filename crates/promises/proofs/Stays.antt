@@ -14,9 +14,10 @@ use Rattle.rules.specs.Words.{unless, Answer, value, refused}
 use Rattle.rules.specs.Record.{Index, lengthOf, countsHold}
 use Rattle.rules.specs.Push.{Plan, refuse, segment, first, more, planOf, effect, pushRule}
 use Rattle.rules.specs.Reading.{getRule, inRange, reads, written, rangeRule, stays, moved, stepRule}
-use Rattle.laws.proofs.Tests.{pick-case}
+use Rattle.laws.proofs.Tests.{when-case}
+use Rattle.laws.proofs.Answers.{value-refused}
 use Rattle.promises.specs.Kept.{Appended, Does, Filled}
-use Rattle.promises.proofs.Deciding.{no-refusal, one-value}
+use Rattle.promises.proofs.Deciding.{one-value}
 use Rattle.promises.proofs.Stores.{kept-sets, sets-at}
 use Rattle.promises.proofs.Plans.{Due, plan-due, plan-appended}
 use Rattle.promises.proofs.Ranges.{through, reads-many, reads-entry}
@@ -29,9 +30,9 @@ push-refused x v e q = by-plan (planOf x v) q
   where
     by-plan : (p : Plan) → effect x v p .answer ≡ refused e → effect x v p .left ≡ x
     by-plan (refuse d) q = refl
-    by-plan segment q = no-refusal (lengthOf x) e q
-    by-plan (first d n) q = no-refusal (lengthOf x) e q
-    by-plan (more d w) q = no-refusal (lengthOf x) e q
+    by-plan segment q = value-refused q
+    by-plan (first d n) q = value-refused q
+    by-plan (more d w) q = value-refused q
 
 module _ (x : Index) (v : ℕ) where
   -- an accepted push did what was due
@@ -40,7 +41,7 @@ module _ (x : Index) (v : ℕ) where
   push-does p q = by-plan (planOf x v) (plan-due x v) q
     where
       by-plan : (plan : Plan) → Due x v plan → effect x v plan .answer ≡ value p → Does x v (effect x v plan .left)
-      by-plan (refuse e) d q = no-refusal p e (sym q)
+      by-plan (refuse e) d q = value-refused (sym q)
       by-plan segment d q = inl (d, refl)
       by-plan (first k n) d q = inr (inl (d .0, rw (d .1, d .2)))
       by-plan (more k w) d q = inr (inr (d .0, rw (d .2) at (d .3), rw (d .1, d .2)))
@@ -51,7 +52,7 @@ module _ (x : Index) (v : ℕ) where
   push-answers p q = by-plan (planOf x v) q
     where
       by-plan : (plan : Plan) → effect x v plan .answer ≡ value p → p ≡ lengthOf x
-      by-plan (refuse e) q = no-refusal p e (sym q)
+      by-plan (refuse e) q = value-refused (sym q)
       by-plan segment q = one-value p (lengthOf x) (sym q)
       by-plan (first k n) q = one-value p (lengthOf x) (sym q)
       by-plan (more k w) q = one-value p (lengthOf x) (sym q)
@@ -71,7 +72,7 @@ unfolding rangeRule
 range-refused x a b out e q = by-answer (valuesOf x a b out) q
   where
     by-answer : (r : Answer (List ℕ)) → written out r .answer ≡ refused e → written out r .left ≡ out
-    by-answer (value vs) q = no-refusal (length vs) e q
+    by-answer (value vs) q = value-refused q
     by-answer (refused d) q = refl
 
 -- get_range that answers has read every position of a..b, and leaves the output from b - a on
@@ -81,7 +82,7 @@ range-fills x a b out n q = by-answer (valuesOf x a b out) refl q
   where
     by-answer : (r : Answer (List ℕ)) → valuesOf x a b out ≡ r
         → written out r .answer ≡ value n → Filled x a b out n (written out r .left)
-    by-answer (refused e) h q = no-refusal n e (sym q)
+    by-answer (refused e) h q = value-refused (sym q)
     by-answer (value vs) h q =
         let t = through (countsHold x) _ 9 vs h in
         let u = through (leb b (lengthOf x)) _ 6 vs (t .1) in
@@ -100,7 +101,7 @@ range-fills x a b out n q = by-answer (valuesOf x a b out) refl q
 -- a step that refuses stays
 pub step-refused : (x : Index) (c d : Cursor) (e : ℕ) → stepRule x c ≡ stays e d → d ≡ c
 unfolding stepRule
-step-refused x c d e = pick-case (λ s. s ≡ stays e d → d ≡ c) (leb (c .end) (c .next)) (λ t q. done-stays e d q) (λ t. by-answer (getRule x (c .next)))
+step-refused x c d e = when-case (λ s. s ≡ stays e d → d ≡ c) (leb (c .end) (c .next)) (λ t q. done-stays e d q) (λ t. by-answer (getRule x (c .next)))
   where
     by-answer : (r : Answer ℕ) → moved c r ≡ stays e d → d ≡ c
     by-answer (value v) q = gave-stays v e _ d q

@@ -8,10 +8,11 @@ use Rattle.rules.specs.declared.Cursor.{Cursor}
 use Rattle.rules.specs.Words.{Answer, value}
 use Rattle.rules.specs.Record.{Index}
 use Rattle.rules.specs.Reading.{done, gave, stays, moved, stepRule, getRule}
-use Rattle.laws.proofs.Tests.{pick-case}
+use Rattle.laws.proofs.Tests.{when-case}
+use Rattle.laws.proofs.Answers.{value-refused}
 use Rattle.promises.specs.Table.{getTable}
 use Rattle.promises.specs.Steps.{StepExactly}
-use Rattle.promises.proofs.Deciding.{Decided, none, given, one-given, some-given, no-refusal, one-value}
+use Rattle.promises.proofs.Deciding.{Decided, none, given, one-given, some-given, one-value}
 use Rattle.promises.proofs.Reading.{get-decided}
 
 -- done is no value
@@ -57,13 +58,13 @@ module _ (x : Index) (c : Cursor) where
   going is l (given {e = d} g) = record {
     finishes = (λ q. done-stays d c (sym q), λ h. absurd (omega arith));
     refuses = λ e. (λ q. (l, rw (same-stays d e c c q) at g), λ h. rw (one-given (getTable x (c .next)) d e g (h .1)));
-    gives = λ w. (λ q. gave-stays w d _ c (sym q), λ h. no-refusal w d (sym (h .1) ∙ is));
+    gives = λ w. (λ q. gave-stays w d _ c (sym q), λ h. value-refused (sym (h .1) ∙ is));
   }
 
   -- a step
   pub step-decided : StepExactly x c (stepRule x c)
   unfolding stepRule
   step-decided =
-      pick-case (StepExactly x c) (leb (c .end) (c .next))
+      when-case (StepExactly x c) (leb (c .end) (c .next))
       (λ t. finished (leb-true (c .end) (c .next) t))
       (λ t. going refl (leb-false (c .end) (c .next) t) (get-decided x (c .next)))

@@ -1,14 +1,14 @@
 -- A store and a run of stores leave every entry before and behind them.
-use Prim.Native.Nat.{ℕ, zero, suc, _+_, _/_, _≤_, _<_}
+use Prim.Native.Nat.{ℕ, zero, suc, _+_, _≤_, _<_}
 use mathlib.Core.List.{List, [], _∷_}
 use mathlib.Core.Logic.{⊎-elim}
-use mathlib.Core.Path.{_≡_, refl, ap, _∙_}
+use mathlib.Core.Path.{_≡_, refl, _∙_}
 use native.Mathlib.Omega.{arith}
 use native.Mathlib.Nat.{add-zero, add-suc, suc-add}
 use lib.ListN.{length, getD, set, length-set}
 use lib.Seq.{sets, length-sets, getD-set-same, getD-set-other}
 use Rattle.rules.specs.Push.{deltaBytes}
-use Rattle.laws.proofs.Bytes.{sets-before}
+use Rattle.laws.proofs.Bytes.{length-bytes, sets-before}
 use Rattle.promises.specs.Kept.{Kept}
 
 -- nothing is stored
@@ -38,11 +38,6 @@ sets-at (v ∷ vs) l at (suc i) h k =
 -- entries are stored one after another
 pub kept-sets : (l : List ℕ) (at : ℕ) (vs : List ℕ) → Kept at (at + length vs) l (sets l at vs)
 kept-sets l at vs = record { long = length-sets l at vs; entries = λ i. ⊎-elim (sets-before vs l at i) (sets-after vs l at i) }
-
--- a delta's low w bytes are w many
-length-bytes : (w d : ℕ) → length (deltaBytes w d) ≡ w
-length-bytes zero d = refl
-length-bytes (suc w) d = ap suc (length-bytes w (d / 256))
 
 -- a delta's bytes are stored
 pub kept-bytes : (l : List ℕ) (at w d : ℕ) → Kept at (at + w) l (sets l at (deltaBytes w d))

@@ -2,7 +2,6 @@
 use Prim.Native.Nat.{ℕ, _≤_}
 use mathlib.Core.Bool.{true}
 use mathlib.Core.Path.{_≡_, sym, ap, _∙_}
-use native.Mathlib.Omega.{arith}
 use lib.Dec.{leb}
 use borrow.Author.Tests.{leb-true}
 use Rattle.rules.specs.Words.{Answer, refused, andThen}
@@ -11,12 +10,9 @@ use Rattle.rules.specs.Reading.{inRange}
 use Rattle.rules.specs.Refusals.{numberOf}
 use Rattle.rules.specs.declared.Refusal.{Refusal}
 use Rattle.laws.proofs.Tests.{by-test}
+use Rattle.laws.proofs.Answers.{value-refused}
 use Rattle.tables.specs.declared.Checked.{Checked}
 use Rattle.tables.specs.Range.{checkedOf, checkRule}
-
--- a good check is no refusal
-not-both : {P : Type 0} (e : ℕ) → checkedOf Checked.Good ≡ refused e → P
-not-both e q = let z : _≡_ {A = ℕ} 0 1 = cc in absurd (omega arith)
 
 module _ (x : Index) (a b : ℕ) where
   -- whatever stands behind the tests, they answer first
@@ -45,6 +41,6 @@ module _ (x : Index) (a b : ℕ) where
       (λ t. by-test (leb b (lengthOf x))
       (λ u. by-test (leb a b)
       (λ v. (t, leb-true b (lengthOf x) u, leb-true a b v))
-      (λ v. not-both 7 (sym (ap checkedOf r) ∙ q ∙ rw (t, u, v))))
-      (λ u. not-both 6 (sym (ap checkedOf r) ∙ q ∙ rw (t, u))))
-      (λ t. not-both 9 (sym (ap checkedOf r) ∙ q ∙ rw t))
+      (λ v. value-refused {e = 7} (sym (ap checkedOf r) ∙ q ∙ rw (t, u, v))))
+      (λ u. value-refused {e = 6} (sym (ap checkedOf r) ∙ q ∙ rw (t, u))))
+      (λ t. value-refused {e = 9} (sym (ap checkedOf r) ∙ q ∙ rw t))

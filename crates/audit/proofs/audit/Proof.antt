@@ -1,5 +1,5 @@
 -- While the first k segments have no flaw, the verdict is the one on the segments from k on.
-use Prim.Native.Nat.{_-_, _≤_}
+use Prim.Native.Nat.{_-_}
 use mathlib.Core.Path.{_≡_, refl, sym, ap, _∙_}
 use native.Mathlib.Omega.{arith}
 use denote.Ref.{now}
@@ -15,7 +15,7 @@ use Rattle.audit.proofs.audit.Tie as tie
 abbrev Inv-loop : tie.InvT-loop
 Inv-loop s starts bases offsets widths bytes segments k₀ k =
     let x = index s starts bases offsets widths bytes in
-    (k ≤ segments) × (segments ≡ s .segments) × (auditRule x ≡ auditFrom x (segments - k) k)
+    (segments ≡ s .segments) × (auditRule x ≡ auditFrom x (segments - k) k)
 
 abbrev μ-loop : tie.MeasureT-loop
 μ-loop s starts bases offsets widths bytes segments k₀ k = segments - k
@@ -31,7 +31,7 @@ returns : tie.Need-returns Inv-loop μ-loop
 returns c = sym (audit-counts _ (failed (c .before .counts-hold .ensures) (c .if1 .taken)))
 
 loop-holds : tie.Need-loop-holds Inv-loop μ-loop
-loop-holds c = (omega arith, refl, audit-start _ (passed (c .before .counts-hold .ensures) (c .if1 .left)))
+loop-holds c = (refl, audit-start _ (passed (c .before .counts-hold .ensures) (c .if1 .left)))
 
 audit-segment-requires : tie.Need-audit-segment-requires Inv-loop μ-loop
 audit-segment-requires c κs = (counts-facts _ (passed (c .before .before .before .counts-hold .ensures) (c .before .before .if1 .left)), omega arith)
@@ -45,7 +45,7 @@ enum-told-2 c = search needs
 returns-2 : tie.Need-returns-2 Inv-loop μ-loop
 returns-2 c =
     let l = c .before .before .before .before .loop in
-    audit-stop (X (c .before .before .before .before .before .before .before .before .before .before .before .before)) _ (l .k) (c .before .before .audit-segment .result) (omega arith) (c .before .before .audit-segment .ensures) (c .enum-told2 .given .1) ∙ sym (l .inv .2)
+    audit-stop (X (c .before .before .before .before .before .before .before .before .before .before .before .before)) _ (l .k) (c .before .before .audit-segment .result) (omega arith) (c .before .before .audit-segment .ensures) (c .enum-told2 .given .1) ∙ sym (l .inv .1)
 
 add-k : tie.Need-add-k Inv-loop μ-loop
 add-k c = omega arith
@@ -56,10 +56,10 @@ loop-less c = omega arith
 loop-again : tie.Need-loop-again Inv-loop μ-loop
 loop-again c =
     let l = c .before .before .before .before .loop in
-    (omega arith, l .inv .1, l .inv .2 ∙ audit-on (X (c .before .before .before .before .before .before .before .before .before .before .before .before)) _ (l .k) (omega arith) (sym (c .before .before .audit-segment .ensures) ∙ ap verdictOf (c .enum-told .given .1)))
+    (l .inv .0, l .inv .1 ∙ audit-on (X (c .before .before .before .before .before .before .before .before .before .before .before .before)) _ (l .k) (omega arith) (sym (c .before .before .audit-segment .ensures) ∙ ap verdictOf (c .enum-told .given .1)))
 
 returns-3 : tie.Need-returns-3 Inv-loop μ-loop
-returns-3 c = let l = c .before .loop in sym (l .inv .2 ∙ audit-end (X (c .before .before .before .before .before .before .before .before .before)) _ (l .k) (omega arith))
+returns-3 c = let l = c .before .loop in sym (l .inv .1 ∙ audit-end (X (c .before .before .before .before .before .before .before .before .before)) _ (l .k) (omega arith))
 
 pub audit-spec : {M : Type 1} → statement M
 audit-spec =

@@ -4,7 +4,8 @@ use native.Mathlib.Omega.{arith}
 use denote.Ref.{now}
 use Rattle.rules.specs.Push.{deltaBytes}
 use Rattle.rules.specs.declared.Pushed.{Pushed}
-use Rattle.delta.proofs.Storing.{stored-from, length-bytes}
+use Rattle.laws.proofs.Bytes.{length-bytes}
+use Rattle.delta.proofs.Storing.{stored-from}
 use borrow.Author.Needs.{needs}
 use Rattle.compact_writer.proofs.push_delta.Statement.{statement}
 use Rattle.compact_writer.proofs.push_delta.Tie as tie

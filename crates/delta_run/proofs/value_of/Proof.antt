@@ -6,7 +6,7 @@ use denote.Ref.{now}
 use Rattle.rules.specs.Reading.{runValueRule}
 use Rattle.laws.proofs.Tests.{taken, left}
 use Rattle.laws.proofs.Bytes.{room-fits}
-use Rattle.delta_run.proofs.Counts.{count-given, value-refused}
+use Rattle.delta_run.proofs.Counts.{count-given, count-refused}
 use borrow.Author.Needs.{needs}
 use Rattle.delta_run.proofs.value_of.Statement.{statement}
 use Rattle.delta_run.proofs.value_of.Tie as tie
@@ -21,7 +21,7 @@ enum-told : tie.Need-enum-told
 enum-told c = search needs
 
 returns : tie.Need-returns
-returns c = value-refused _ _ _ _ (c .before .before .count-of .ensures) (c .enum-told .given .1)
+returns c = count-refused _ _ _ _ (c .before .before .count-of .ensures) (c .enum-told .given .1)
 
 returns-2 : tie.Need-returns-2
 unfolding runValueRule

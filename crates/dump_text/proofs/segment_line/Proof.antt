@@ -1,0 +1,101 @@
+use mathlib.Core.Path.{_≡_, _∙_}
+use native.Mathlib.Omega.{arith}
+use Rattle.rules.specs.Refusals.{widthAt}
+use Rattle.laws.proofs.Counts.{counts-facts}
+use Rattle.dump_text.specs.Report.{segmentLine}
+use borrow.Author.Needs.{needs}
+use Rattle.dump_text.proofs.segment_line.Statement.{statement}
+use Rattle.dump_text.proofs.segment_line.Tie as tie
+
+mul-start : tie.Need-mul-start
+mul-start c = omega (arith, counts-facts _ (c .before .before .before .before .before .before .pre .0), c .before .before .before .before .before .before .pre .1)
+
+shared-slice-read-start : tie.Need-shared-slice-read-start
+shared-slice-read-start c = omega (arith, counts-facts _ (c .before .before .before .before .before .before .before .pre .0), c .before .before .before .before .before .before .before .pre .1)
+
+mul-base : tie.Need-mul-base
+mul-base c = omega (arith, counts-facts _ (c .before .before .before .before .before .before .before .pre .0), c .before .before .before .before .before .before .before .pre .1)
+
+shared-slice-read-base : tie.Need-shared-slice-read-base
+shared-slice-read-base c = omega (arith, counts-facts _ (c .before .before .before .before .before .before .before .before .pre .0), c .before .before .before .before .before .before .before .before .pre .1)
+
+mul-offset : tie.Need-mul-offset
+mul-offset c = omega (arith, counts-facts _ (c .before .before .before .before .before .before .before .before .pre .0), c .before .before .before .before .before .before .before .before .pre .1)
+
+shared-slice-read-offset : tie.Need-shared-slice-read-offset
+shared-slice-read-offset c = omega (arith, counts-facts _ (c .before .before .before .before .before .before .before .before .before .pre .0), c .before .before .before .before .before .before .before .before .before .pre .1)
+
+slice-aggregate-put-field : tie.Need-slice-aggregate-put-field
+slice-aggregate-put-field c = search needs
+
+put-field-requires : tie.Need-put-field-requires
+put-field-requires c κs = search needs
+
+slice-aggregate-put-field-2 : tie.Need-slice-aggregate-put-field-2
+slice-aggregate-put-field-2 c = search needs
+
+put-field-requires-2 : tie.Need-put-field-requires-2
+put-field-requires-2 c κs = search needs
+
+slice-aggregate-put-field-3 : tie.Need-slice-aggregate-put-field-3
+slice-aggregate-put-field-3 c = search needs
+
+put-field-requires-3 : tie.Need-put-field-requires-3
+put-field-requires-3 c κs = search needs
+
+slice-aggregate-put-field-4 : tie.Need-slice-aggregate-put-field-4
+slice-aggregate-put-field-4 c = search needs
+
+put-field-requires-4 : tie.Need-put-field-requires-4
+put-field-requires-4 c κs = search needs
+
+width-of-requires : tie.Need-width-of-requires
+width-of-requires c κs = omega (arith, counts-facts _ (c .before .before .before .before .before .before .before .before .before .before .before .before .before .before .before .before .before .before .before .before .before .before .before .before .before .before .before .before .before .before .pre .0))
+
+put-width-requires : tie.Need-put-width-requires
+put-width-requires c κs = search needs
+
+slice-aggregate-put : tie.Need-slice-aggregate-put
+slice-aggregate-put c = search needs
+
+put-requires : tie.Need-put-requires
+put-requires c κs = omega (arith, c .before .before .before .before .before .before .before .before .before .before .before .before .before .before .before .before .before .before .before .before .before .before .before .before .put-field .ensures .0, c .before .before .before .before .before .before .before .before .before .before .before .before .before .before .before .before .before .before .before .put-field2 .ensures .0, c .before .before .before .before .before .before .before .before .before .before .before .before .before .before .put-field3 .ensures .0, c .before .before .before .before .before .before .before .before .before .put-field4 .ensures .0, c .before .before .before .before .put-width .ensures .0, c .before .before .before .before .before .before .before .before .before .before .before .before .before .before .before .before .before .before .before .before .before .before .before .before .before .before .before .before .before .before .before .before .before .before .before .before .pre .2)
+
+same-length : tie.Need-same-length
+same-length c = search needs
+
+returns : tie.Need-returns
+unfolding segmentLine
+returns c = 
+    let e = c .before .before .before .before .before .before .before .before .before .before .before .before .before .before .before .before .before .before .before .before .before .before .before .before .before .before .before .put-field .ensures in
+    let f = c .before .before .before .before .before .before .before .before .before .before .before .before .before .before .before .before .before .before .before .before .before .before .put-field2 .ensures in
+    let g = c .before .before .before .before .before .before .before .before .before .before .before .before .before .before .before .before .before .put-field3 .ensures in
+    let h = c .before .before .before .before .before .before .before .before .before .before .before .before .put-field4 .ensures in
+    let w = c .before .before .before .before .before .before .before .put-width .ensures in
+    let p = c .before .before .put .ensures in
+    (omega (arith, e .0, f .0, g .0, h .0, w .0, p .0, c .before .before .before .before .before .before .before .before .before .before .before .before .before .before .before .before .before .before .before .before .before .before .before .before .before .before .before .before .before .before .before .before .before .before .before .before .before .before .before .pre .2), p .1 ∙ rw (w .1, c .before .before .before .before .before .before .before .before .width-of .ensures, h .1, g .1, f .1, e .1, segmentLine))
+
+pub segment-line-spec : {M : Type 1} → statement M
+segment-line-spec =
+    tie.close
+    (tie.spec
+    mul-start
+    shared-slice-read-start
+    mul-base
+    shared-slice-read-base
+    mul-offset
+    shared-slice-read-offset
+    slice-aggregate-put-field
+    put-field-requires
+    slice-aggregate-put-field-2
+    put-field-requires-2
+    slice-aggregate-put-field-3
+    put-field-requires-3
+    slice-aggregate-put-field-4
+    put-field-requires-4
+    width-of-requires
+    put-width-requires
+    slice-aggregate-put
+    put-requires
+    same-length
+    returns)
