@@ -184,22 +184,21 @@ impl Damaged {
         self.compare("run_value", number(&model), engine.run_value(bytes, base, width, i), model, input);
     }
 
-    /// One segment below the limit, at it, and above it, in tables that have room for more.
+    /// One segment below the limit, at it, and above it, in tables that have room for more; the last with a width and without one.
     fn segment_limit(&mut self, engine: &dyn Engine) {
-        let mut tables = Tables {
+        let tables = Tables {
             starts: (0..65_600).map(|s| 2 * s).collect(),
             bases: (0..65_600).map(|s| s << 8).collect(),
             offsets: (0..65_600).collect(),
             widths: vec![1; 65_600],
             data: vec![0; 65_600],
         };
-        let mut copy = tables.clone();
         for (segments, widths) in (65_534..=65_536).flat_map(|segments| [(segments, segments), (segments, segments - 1)]) {
             let state = State { minimum: 1, length: segments + widths, segments, widths, used: widths };
             for value in [u64::MAX, (segments - 1) << 8] {
-                self.push(engine, state, &mut tables, &mut copy, value);
+                self.push(engine, state, &mut tables.clone(), &mut tables.clone(), value);
             }
-            let model = Model.audit(&state, &copy);
+            let model = Model.audit(&state, &tables);
             self.compare("audit", model.0, engine.audit(&state, &tables), model, || format!("{segments} segments"));
         }
     }

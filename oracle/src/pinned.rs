@@ -206,7 +206,12 @@ const TABLES: [(&str, &str); 9] = [
 
 const SUBTRACTS: &str = "panic: attempt to subtract with overflow";
 
-/// The smallest inputs of docs/DIFFERENCES.md, in its order.
+/// The shortest list that fills 65,535 segments and gives the last one a width.
+fn most_segments() -> Vec<u64> {
+    (0..65_535).flat_map(|segment| [segment << 8; 2]).collect()
+}
+
+/// The smallest inputs of docs/DIFFERENCES.md.
 fn differences() -> Vec<Difference> {
     let at = |values: &[u64], calls| Difference { block: 16, values: values.to_vec(), minimum: 1, calls };
     vec![
@@ -256,5 +261,6 @@ fn differences() -> Vec<Difference> {
         at(&[0, 1, 0], &[(Call::BisectRangeLeft(0, 2, 1), "[1]", "[1]", "[2]")]),
         Difference { minimum: 6, ..at(&[0; 4], &[(Call::BisectLeft(1), "[3]", "[3]", "[4]")]) },
         Difference { block: 4096, ..at(&[0; 4098], &[(Call::BisectLeft(1), "[4097]", "[4097]", "[4098]")]) },
+        at(&most_segments(), &[(Call::Push(65_535 << 8), "[131070]", "[131070]", "refused 2")]),
     ]
 }
