@@ -14,4 +14,3 @@ pub mod Walks
 pub mod Room
 pub mod DeltaRun
 pub mod Undamaged
-pub mod Demands

@@ -19,7 +19,10 @@ use Rattle.rules.specs.Refusals.{numberOf, openedOf, answerOf, targetOf, walkOf
 use Rattle.promises.specs.Sentences.{Sentence, Given, Exactly}
 use Rattle.promises.specs.Table.{pushTable, getTable, rangeTable}
 use Rattle.promises.specs.Outcomes.{One, PushLeft, pushSays, pushUnchanged, RangeLeft, rangeSays, rangeUnchanged}
-use Rattle.promises.proofs.Exactly.{push-exactly, range-exactly, step-exactly}
+use Rattle.promises.proofs.Deciding.{exactly}
+use Rattle.promises.proofs.Push.{push-decided}
+use Rattle.promises.proofs.Reading.{range-decided}
+use Rattle.promises.proofs.Steps.{step-decided}
 use Rattle.promises.proofs.One.{one-opened, one-got, one-targeted, one-walk, one-stepped, one-pushed, one-ranged}
 use Rattle.promises.proofs.Stays.{push-refused, range-refused}
 
@@ -54,7 +57,7 @@ pub push-refuses : (x : Index) (v : ℕ) (e : Refusal) (c : PushLeft) → pushSa
 push-refuses x v e =
     refuses pushSays (λ o. o .answer) (pushUnchanged x e) (numberOf e) (one-pushed _) refl
     (λ q. ap (λ a. outcome a (pushRule x v .left)) q ∙ ap (outcome (refused (numberOf e))) (push-refused x v (numberOf e) q))
-    (push-exactly x v)
+    (exactly (push-decided x v))
 
 -- get_range: the refusal comes with every entry of the output as it was
 pub range-refuses : (x : Index) (a b : ℕ) (out : List ℕ) (e : Refusal) (c : RangeLeft) → rangeSays c ≡ rangeRule x a b out
@@ -62,12 +65,12 @@ pub range-refuses : (x : Index) (a b : ℕ) (out : List ℕ) (e : Refusal) (c : 
 range-refuses x a b out e =
     refuses rangeSays (λ r. r .answer) (rangeUnchanged out e) (numberOf e) (one-ranged _) refl
     (λ q. ap (λ r. ranged r (rangeRule x a b out .left)) q ∙ ap (ranged (refused (numberOf e))) (range-refused x a b out (numberOf e) q))
-    (range-exactly x a b out)
+    (exactly (range-decided x a b out))
 
 -- a step: the refusal comes with the cursor as it was
 pub step-refuses : (x : Index) (c : Cursor) (e : Refusal) (r : Step) → stepOf r ≡ stepRule x c
     → (r ≡ Step.Refused c e) ↔ ((c .next < c .end) × Given (getTable x (c .next)) (numberOf e))
 step-refuses x c e r promise = (
-  λ h. step-exactly x c .refuses (numberOf e) .0 (sym promise ∙ ap stepOf h),
-  λ g. one-stepped (stays (numberOf e) c) r (Step.Refused c e) (promise ∙ step-exactly x c .refuses (numberOf e) .1 g) refl,
+  λ h. step-decided x c .refuses (numberOf e) .0 (sym promise ∙ ap stepOf h),
+  λ g. one-stepped (stays (numberOf e) c) r (Step.Refused c e) (promise ∙ step-decided x c .refuses (numberOf e) .1 g) refl,
 )

@@ -4,7 +4,6 @@ pub mod Reading
 pub mod Push
 pub mod Steps
 pub mod Audited
-pub mod Exactly
 pub mod One
 pub mod Stores
 pub mod Plans

@@ -16,11 +16,10 @@ use Rattle.rules.specs.declared.Step.{Step}
 use Rattle.rules.specs.declared.Letter as code-letter
 use Rattle.rules.specs.declared.Verdict as code-verdict
 use Rattle.rules.specs.Words.{when, Answer, value, refused}
-use Rattle.rules.specs.Record.{Index, openRule}
-use Rattle.rules.specs.Push.{Outcome, pushRule, lengthRule, sizeRule}
-use Rattle.rules.specs.Reading.{Span, Ranged, Stepped, done, gave, stays, getRule, rangeRule, iterRule, stepRule, runCountRule, runValueRule, targetRule, bisectRule, bisectRangeRule}
+use Rattle.rules.specs.Push.{Outcome}
+use Rattle.rules.specs.Reading.{Span, Ranged, Stepped, done, gave, stays}
 use Rattle.rules.specs.Refusals.{numberOf, openedOf, outcomeOf, answerOf, targetOf, walkOf, stepOf}
-use Rattle.rules.specs.Audit.{Letter, A, B, C, D, E, F, Verdict, wellFormed, flaw, letterOf, verdictOf, auditRule}
+use Rattle.rules.specs.Audit.{Letter, A, B, C, D, E, F, Verdict, wellFormed, flaw, letterOf, verdictOf}
 use Rattle.promises.specs.Outcomes.{One, PushLeft, pushSays, RangeLeft, rangeSays}
 
 -- where an outcome can be had back from what is said of it, one outcome fits
@@ -160,59 +159,3 @@ one-judged rule = one verdictOf back rule same
     same : (c : code-verdict.Verdict) → back (verdictOf c) ≡ c
     same code-verdict.Verdict.WellFormed = refl
     same (code-verdict.Verdict.Flaw l k) = rw (same-letter l)
-
--- each entry point, at any input. Opening
-pub one-open : (m : ℕ) → One openedOf (openRule m)
-one-open m = one-opened (openRule m)
-
--- a push: the answer with its state, and every entry of the five tables
-pub one-push : (x : Index) (v : ℕ) → One pushSays (pushRule x v)
-one-push x v = one-pushed (pushRule x v)
-
--- length
-pub one-length : (x : Index) → One answerOf (lengthRule x)
-one-length x = one-got (lengthRule x)
-
--- size
-pub one-size : (x : Index) → One answerOf (sizeRule x)
-one-size x = one-got (sizeRule x)
-
--- get
-pub one-get : (x : Index) (p : ℕ) → One answerOf (getRule x p)
-one-get x p = one-got (getRule x p)
-
--- get_range: the answer and every entry of the output
-pub one-range : (x : Index) (a b : ℕ) (out : List ℕ) → One rangeSays (rangeRule x a b out)
-one-range x a b out = one-ranged (rangeRule x a b out)
-
--- opening a cursor
-pub one-iter : (x : Index) (a b : ℕ) → One walkOf (iterRule x a b)
-one-iter x a b = one-walk (iterRule x a b)
-
--- a step: the answer with its cursor
-pub one-step : (x : Index) (c : Cursor) → One stepOf (stepRule x c)
-one-step x c = one-stepped (stepRule x c)
-
--- a delta run's count
-pub one-run-count : (bytes : List ℕ) (w : ℕ) → One answerOf (runCountRule bytes w)
-one-run-count bytes w = one-got (runCountRule bytes w)
-
--- a delta run's i-th value
-pub one-run-value : (bytes : List ℕ) (base w i : ℕ) → One answerOf (runValueRule bytes base w i)
-one-run-value bytes base w i = one-got (runValueRule bytes base w i)
-
--- target_range
-pub one-target : (x : Index) (p t : ℕ) → One targetOf (targetRule x p t)
-one-target x p t = one-targeted (targetRule x p t)
-
--- bisect_left
-pub one-bisect : (x : Index) (v : ℕ) → One answerOf (bisectRule x v)
-one-bisect x v = one-got (bisectRule x v)
-
--- bisect_range_left
-pub one-bisect-range : (x : Index) (a b v : ℕ) → One answerOf (bisectRangeRule x a b v)
-one-bisect-range x a b v = one-got (bisectRangeRule x a b v)
-
--- the audit
-pub one-audit : (x : Index) → One verdictOf (auditRule x)
-one-audit x = one-judged (auditRule x)
