@@ -119,7 +119,7 @@ pub extern "C" fn rotlantern_bisect_left(
 {
     let s = crossing::state_at(state);
     crossing::tell(
-        compact_reader::bisect_left(s, starts, bases, offsets, widths, bytes, v),
+        compact_bisect::bisect_left(s, starts, bases, offsets, widths, bytes, v),
         position,
     )
 }

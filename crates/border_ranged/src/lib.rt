@@ -46,7 +46,7 @@ pub extern "C" fn rotlantern_bisect_range_left(
 {
     let s = crossing::state_at(state);
     crossing::tell(
-        compact_reader::bisect_range_left(s, starts, bases, offsets, widths, bytes, a, b, v),
+        compact_bisect::bisect_range_left(s, starts, bases, offsets, widths, bytes, a, b, v),
         position,
     )
 }

@@ -6,8 +6,8 @@ use Rattle.rules.specs.Reading.{bisectIn}
 use Rattle.laws.proofs.Counts.{counts-facts}
 use Rattle.laws.proofs.Answers.{width-there, width-absent}
 use borrow.Author.Needs.{needs}
-use Rattle.compact_reader.proofs.bisect_in.Statement.{statement}
-use Rattle.compact_reader.proofs.bisect_in.Tie as tie
+use Rattle.compact_bisect.proofs.bisect_in.Statement.{statement}
+use Rattle.compact_bisect.proofs.bisect_in.Tie as tie
 
 mul-start : tie.Need-mul-start
 mul-start c = omega (arith, counts-facts _ (c .before .before .before .before .before .pre .0))

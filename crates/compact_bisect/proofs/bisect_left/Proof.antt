@@ -7,8 +7,8 @@ use Rattle.rules.specs.Reading.{atMost, basesUpTo, bisectRule}
 use Rattle.laws.proofs.Halving.{halving-edge}
 use Rattle.laws.proofs.Counts.{counts-facts}
 use borrow.Author.Needs.{needs}
-use Rattle.compact_reader.proofs.bisect_left.Statement.{statement}
-use Rattle.compact_reader.proofs.bisect_left.Tie as tie
+use Rattle.compact_bisect.proofs.bisect_left.Statement.{statement}
+use Rattle.compact_bisect.proofs.bisect_left.Tie as tie
 
 counts-hold-requires : tie.Need-counts-hold-requires
 counts-hold-requires c κs = search needs

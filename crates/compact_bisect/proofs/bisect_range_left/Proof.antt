@@ -4,8 +4,8 @@ use Rattle.rules.specs.Reading.{bisectRangeRule}
 use Rattle.rules.specs.Refusals.{answerOf}
 use Rattle.tables.proofs.Range.{range-refused, range-good, range-facts}
 use borrow.Author.Needs.{needs}
-use Rattle.compact_reader.proofs.bisect_range_left.Statement.{statement}
-use Rattle.compact_reader.proofs.bisect_range_left.Tie as tie
+use Rattle.compact_bisect.proofs.bisect_range_left.Statement.{statement}
+use Rattle.compact_bisect.proofs.bisect_range_left.Tie as tie
 
 check-range-requires : tie.Need-check-range-requires
 check-range-requires c κs = search needs

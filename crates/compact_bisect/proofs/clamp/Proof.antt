@@ -1,7 +1,7 @@
 -- The branches decide the minimum and the maximum.
 use native.Mathlib.Omega.{arith}
-use Rattle.compact_reader.proofs.clamp.Statement.{statement}
-use Rattle.compact_reader.proofs.clamp.Tie as tie
+use Rattle.compact_bisect.proofs.clamp.Statement.{statement}
+use Rattle.compact_bisect.proofs.clamp.Tie as tie
 
 returns : tie.Need-returns
 returns c = omega arith

@@ -8,8 +8,8 @@ use Rattle.rules.specs.Reading.{deltaBelow, deltaSearch}
 use Rattle.laws.proofs.Tests.{taken, left}
 use Rattle.laws.proofs.Halving.{halving-edge}
 use borrow.Author.Needs.{needs}
-use Rattle.compact_reader.proofs.delta_search.Statement.{statement}
-use Rattle.compact_reader.proofs.delta_search.Tie as tie
+use Rattle.compact_bisect.proofs.delta_search.Statement.{statement}
+use Rattle.compact_bisect.proofs.delta_search.Tie as tie
 
 returns : tie.Need-returns
 unfolding deltaSearch
