@@ -7,16 +7,13 @@ use Rattle.dump_io.proofs.write_report.Statement.{statement}
 use Rattle.dump_io.proofs.write_report.Tie as tie
 
 abbrev Inv-loop : tie.InvT-loop
-Inv-loop carried starts bases offsets widths bytes out₀ i₀ out i = length out ≡ 160
+Inv-loop carried starts bases offsets widths bytes out₀ i₀ out i = Unit {0}
 
 abbrev μ-loop : tie.MeasureT-loop
 μ-loop carried starts bases offsets widths bytes out₀ i₀ out i = 1028 - i
 
 loop-holds : tie.Need-loop-holds Inv-loop μ-loop
 loop-holds c = search needs
-
-slice-aggregate-line : tie.Need-slice-aggregate-line Inv-loop μ-loop
-slice-aggregate-line c = search needs
 
 line-requires : tie.Need-line-requires Inv-loop μ-loop
 line-requires c κs = search needs
@@ -25,7 +22,7 @@ array-share-prefix-out : tie.Need-array-share-prefix-out Inv-loop μ-loop
 array-share-prefix-out c = search needs
 
 slice-aggregate-write-all : tie.Need-slice-aggregate-write-all Inv-loop μ-loop
-slice-aggregate-write-all c = sym (length-take-le _ _ (c .before .before .line .ensures .0))
+slice-aggregate-write-all c = sym (length-take-le _ _ (c .before .line .ensures .0))
 
 write-all-requires : tie.Need-write-all-requires Inv-loop μ-loop
 write-all-requires c κs = search needs
@@ -49,7 +46,6 @@ write-report-spec =
     Inv-loop
     μ-loop
     loop-holds
-    slice-aggregate-line
     line-requires
     array-share-prefix-out
     slice-aggregate-write-all
