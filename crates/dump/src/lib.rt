@@ -46,7 +46,15 @@ pub fn feed(
     let mut next = carried;
     let mut i: u64 = 0;
     while i < piece.len() as u64 {
-        next = feed_byte(next, starts, bases, offsets, widths, bytes, piece[i as usize]);
+        next = feed_byte(
+            next,
+            starts,
+            bases,
+            offsets,
+            widths,
+            bytes,
+            piece[i as usize],
+        );
         i += 1;
     }
     next
