@@ -1,5 +1,5 @@
 -- Where the input is cut does not matter, and eight bytes are a little-endian value.
-use Prim.Native.Nat.{ℕ, suc, _+_, _*_, _^_, _<_, _≤_}
+use Prim.Native.Nat.{ℕ, suc, _+_, _*_, _<_, _≤_}
 use mathlib.Core.List.{List, [], _∷_, _++_}
 use mathlib.Core.Path.{_≡_, refl, ap}
 use native.Mathlib.Omega.{arith}
@@ -9,7 +9,7 @@ use Rattle.rules.specs.declared.Pushed.{Pushed}
 use Rattle.rules.specs.Record.{Index}
 use Rattle.rules.specs.Push.{Outcome, deltaAt}
 use Rattle.rules.specs.Refusals.{outcomeOf}
-use Rattle.dump.specs.Feeding.{Fed, fed, fedOf, withByte, carriedAfter, afterPush, valueRule, byteRule, feedRule}
+use Rattle.dump.specs.Feeding.{Fed, fed, fedOf, withByte, carriedAfter, refusalOf, valueRule, byteRule, feedRule}
 
 -- feeding two pieces is feeding them as one
 pub pieces : (a b : List ℕ) (f : Fed) → feedRule f (a ++ b) ≡ feedRule (feedRule f a) b
@@ -42,6 +42,6 @@ feed-done f piece i h = rw (drop-of-length-le piece h, feedRule)
 
 -- what the code carries after a push is what the rule carries
 pub pushed-at : (p : Pushed) (starts bases offsets widths bytes : List ℕ) (o : Outcome) → outcomeOf p starts bases offsets widths bytes ≡ o
-    → fedOf (carriedAfter p) starts bases offsets widths bytes ≡ afterPush (o .answer) (o .left)
+    → fedOf (carriedAfter p) starts bases offsets widths bytes ≡ fed (o .left) 0 0 (refusalOf (o .answer))
 pushed-at (Pushed.At s q) starts bases offsets widths bytes o e = rw (← e)
 pushed-at (Pushed.Refused s n) starts bases offsets widths bytes o e = rw (← e)

@@ -1,12 +1,12 @@
 -- Document 01, "The dump program": 8-byte little-endian values from an input that comes in pieces, pushed up to the first refusal.
 use Prim.Native.Nat.{ℕ, _+_, _*_, _/_, _^_}
-use mathlib.Core.List.{List, [], _∷_}
+use mathlib.Core.List.{List, [], _∷_, _++_}
 use lib.Dec.{ltb, eqb}
 use Rattle.rules.specs.declared.State.{State}
 use Rattle.rules.specs.declared.Pushed.{Pushed}
 use Rattle.rules.specs.Words.{when, unless, Answer, value, refused}
 use Rattle.rules.specs.Record.{Index, index, defaultMinimum, freshState}
-use Rattle.rules.specs.Push.{Outcome, pushRule}
+use Rattle.rules.specs.Push.{deltaBytes, pushRule}
 use Rattle.rules.specs.Refusals.{numberOf}
 use Rattle.dump.specs.declared.Carried.{Carried}
 
@@ -42,14 +42,14 @@ abbrev pub carriedAfter : Pushed → Carried
 carriedAfter (Pushed.At s p) = carry s 0 0 0
 carriedAfter (Pushed.Refused s e) = carry s 0 0 (numberOf e)
 
--- the same of a push by the rule
-abbrev pub afterPush : Answer ℕ → Index → Fed
-afterPush (value p) x = fed x 0 0 0
-afterPush (refused e) x = fed x 0 0 e
+-- the number of a refusal, 0 for none
+abbrev pub refusalOf : Answer ℕ → ℕ
+refusalOf (value p) = 0
+refusalOf (refused e) = e
 
--- a whole value is pushed
+-- a whole value is pushed: the next one begins, or the refusal is kept
 abbrev pub valueRule : Index → ℕ → Fed
-valueRule x v = afterPush (pushRule x v .answer) (pushRule x v .left)
+valueRule x v = fed (pushRule x v .left) 0 0 (refusalOf (pushRule x v .answer))
 
 -- a byte of the input: passed over after a refusal; one of a value's first seven; or its last, and the value is pushed
 unfoldable pub byteRule : Fed → ℕ → Fed
@@ -62,3 +62,13 @@ byteRule f b =
 unfoldable pub feedRule : Fed → List ℕ → Fed
 feedRule f [] = f
 feedRule f (b ∷ bs) = feedRule (byteRule f b) bs
+
+-- values as 8 bytes each, least significant first
+abbrev pub bytesOf : List ℕ → List ℕ
+bytesOf [] = []
+bytesOf (v ∷ vs) = deltaBytes 8 v ++ bytesOf vs
+
+-- whole values, pushed one after another up to the first refusal
+unfoldable pub pushAll : Fed → List ℕ → Fed
+pushAll f [] = f
+pushAll f (v ∷ vs) = unless (eqb (f .refusal) 0) f (pushAll (valueRule (f .index) v) vs)

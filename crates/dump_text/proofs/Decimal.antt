@@ -1,6 +1,6 @@
 -- The fewest digits that hold a number are as many as `places` counts.
-use Prim.Native.Nat.{ℕ, zero, suc, _+_, _-_, _/_, _^_, _≤_, _<_}
-use mathlib.Core.Path.{_≡_, refl}
+use Prim.Native.Nat.{ℕ, zero, suc, _-_, _/_, _^_, _≤_, _<_}
+use mathlib.Core.Path.{_≡_}
 use native.Mathlib.Omega.{arith}
 use native.Mathlib.Nat.{pow-suc, pow-le-pow-right, le-trans, div-lt-iff-lt-mul, le-div-iff-mul-le}
 use lib.Dec.{ltb, lit<}

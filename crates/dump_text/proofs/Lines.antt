@@ -1,5 +1,5 @@
 -- Texts put one after another.
-use Prim.Native.Nat.{ℕ, suc, _+_, _≤_, _<_}
+use Prim.Native.Nat.{ℕ, suc, _+_, _<_}
 use mathlib.Core.List.{List, _++_, append-assoc}
 use mathlib.Core.Path.{_≡_, _∙_}
 use native.Mathlib.Nat.{add-suc}

@@ -2,14 +2,8 @@
 use Prim.Native.Nat.{ℕ}
 use mathlib.Core.List.{List, [], _∷_, _++_}
 use lib.ListN.{replicate}
-use Rattle.rules.specs.Push.{deltaBytes}
-use Rattle.dump.specs.Feeding.{Fed, fedOf, nothing, feedRule}
+use Rattle.dump.specs.Feeding.{Fed, fedOf, nothing, feedRule, bytesOf}
 use Rattle.dump_text.specs.Text.{text}
-
--- values as 8 bytes each, least significant first
-abbrev pub bytesOf : List ℕ → List ℕ
-bytesOf [] = []
-bytesOf (v ∷ vs) = deltaBytes 8 v ++ bytesOf vs
 
 -- what the program holds before its first read: 1,024 entries per table and 16,384 data bytes, all 0
 abbrev pub cleared : Fed

@@ -20,9 +20,8 @@ pub fn line(
     widths: &[u8],
     bytes: &[u8],
     i: u64,
-    out: &mut [u8],
+    out: &mut [u8; 160],
 ) -> u64
-    requires { ⌜ 160 ≤ length (now out) ⌝ }
     ensures { λ r. ⌜ Begins r (now (out .exit)) (reportLine (fedOf carried (now (starts .entry)) (now (bases .entry)) (now (offsets .entry)) (now (widths .entry)) (now (bytes .entry))) i) ⌝ }
 {
     let s = carried.state;

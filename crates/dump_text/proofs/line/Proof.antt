@@ -1,4 +1,5 @@
-use mathlib.Core.Path.{_≡_, sym, _∙_}
+-- The rule's tests in the rule's order; with the counts rule, length and size are not refused.
+use mathlib.Core.Path.{sym, _∙_}
 use native.Mathlib.Omega.{arith}
 use borrow.Author.Tests.{eq-eqb, ne-eqb, lt-ltb, le-ltb, not-true, not-false}
 use Rattle.rules.specs.Push.{lengthRule, sizeRule}
@@ -8,57 +9,27 @@ use borrow.Author.Needs.{needs}
 use Rattle.dump_text.proofs.line.Statement.{statement}
 use Rattle.dump_text.proofs.line.Tie as tie
 
-counts-hold-requires : tie.Need-counts-hold-requires
-counts-hold-requires c κs = search needs
-
 returns : tie.Need-returns
 unfolding reportLine
 returns c = (omega arith, rw (sym (c .before .counts-hold .ensures) ∙ not-true _ (c .if1 .taken), reportLine))
 
-end-line-requires : tie.Need-end-line-requires
-end-line-requires c κs = search needs
-
-same-length : tie.Need-same-length
-same-length c = search needs
-
 returns-2 : tie.Need-returns-2
 unfolding reportLine
 returns-2 c =
-    let e = c .before .before .end-line .ensures in
-    (e .0, e .1 ∙ rw (sym (c .before .before .before .before .before .before .counts-hold .ensures) ∙ not-false _ (c .before .before .before .before .before .if1 .left), eq-eqb _ _ (c .before .before .before .before .if2 .taken), reportLine))
-
-slice-aggregate-number-line : tie.Need-slice-aggregate-number-line
-slice-aggregate-number-line c = search needs
-
-number-line-requires : tie.Need-number-line-requires
-number-line-requires c κs = search needs
-
-same-length-2 : tie.Need-same-length-2
-same-length-2 c = search needs
+    let e = c .end-line .ensures in
+    (e .0, e .1 ∙ rw (sym (c .before .before .before .before .counts-hold .ensures) ∙ not-false _ (c .before .before .before .if1 .left), eq-eqb _ _ (c .before .before .if2 .taken), reportLine))
 
 returns-3 : tie.Need-returns-3
 unfolding reportLine lengthRule
 returns-3 c =
-    let e = c .before .before .number-line .ensures in
-    (e .0, e .1 ∙ rw (sym (c .before .before .before .before .before .before .before .before .counts-hold .ensures) ∙ not-false _ (c .before .before .before .before .before .before .before .if1 .left), ne-eqb _ _ (c .before .before .before .before .before .before .if2 .left), eq-eqb _ _ (c .before .before .before .before .before .if3 .taken), reportLine))
-
-slice-aggregate-number-line-2 : tie.Need-slice-aggregate-number-line-2
-slice-aggregate-number-line-2 c = search needs
-
-number-line-requires-2 : tie.Need-number-line-requires-2
-number-line-requires-2 c κs = search needs
-
-same-length-3 : tie.Need-same-length-3
-same-length-3 c = search needs
+    let e = c .number-line .ensures in
+    (e .0, e .1 ∙ rw (sym (c .before .before .before .before .before .before .counts-hold .ensures) ∙ not-false _ (c .before .before .before .before .before .if1 .left), ne-eqb _ _ (c .before .before .before .before .if2 .left), eq-eqb _ _ (c .before .before .before .if3 .taken), reportLine))
 
 returns-4 : tie.Need-returns-4
 unfolding reportLine
 returns-4 c =
-    let e = c .before .before .number-line2 .ensures in
-    (e .0, e .1 ∙ rw (sym (c .before .before .before .before .before .before .before .before .before .counts-hold .ensures) ∙ not-false _ (c .before .before .before .before .before .before .before .before .if1 .left), ne-eqb _ _ (c .before .before .before .before .before .before .before .if2 .left), ne-eqb _ _ (c .before .before .before .before .before .before .if3 .left), eq-eqb _ _ (c .before .before .before .before .before .if4 .taken), reportLine))
-
-slice-aggregate-number-line-3 : tie.Need-slice-aggregate-number-line-3
-slice-aggregate-number-line-3 c = search needs
+    let e = c .number-line2 .ensures in
+    (e .0, e .1 ∙ rw (sym (c .before .before .before .before .before .before .before .counts-hold .ensures) ∙ not-false _ (c .before .before .before .before .before .before .if1 .left), ne-eqb _ _ (c .before .before .before .before .before .if2 .left), ne-eqb _ _ (c .before .before .before .before .if3 .left), eq-eqb _ _ (c .before .before .before .if4 .taken), reportLine))
 
 mul-number-line : tie.Need-mul-number-line
 mul-number-line c = omega (arith, counts-facts _ (sym (c .before .before .before .before .before .before .before .counts-hold .ensures) ∙ not-false _ (c .before .before .before .before .before .before .if1 .left)))
@@ -69,32 +40,20 @@ add-number-line c = omega (arith, counts-facts _ (sym (c .before .before .before
 add-number-line-2 : tie.Need-add-number-line-2
 add-number-line-2 c = omega (arith, counts-facts _ (sym (c .before .before .before .before .before .before .before .before .before .counts-hold .ensures) ∙ not-false _ (c .before .before .before .before .before .before .before .before .if1 .left)))
 
-number-line-requires-3 : tie.Need-number-line-requires-3
-number-line-requires-3 c κs = search needs
-
-same-length-4 : tie.Need-same-length-4
-same-length-4 c = search needs
-
 returns-5 : tie.Need-returns-5
 unfolding reportLine sizeRule
 returns-5 c =
-    let e = c .before .before .number-line3 .ensures in
-    (e .0, e .1 ∙ rw (sym (c .before .before .before .before .before .before .before .before .before .before .before .before .before .counts-hold .ensures) ∙ not-false _ (c .before .before .before .before .before .before .before .before .before .before .before .before .if1 .left), ne-eqb _ _ (c .before .before .before .before .before .before .before .before .before .before .before .if2 .left), ne-eqb _ _ (c .before .before .before .before .before .before .before .before .before .before .if3 .left), ne-eqb _ _ (c .before .before .before .before .before .before .before .before .before .if4 .left), eq-eqb _ _ (c .before .before .before .before .before .before .before .before .if5 .taken), reportLine))
-
-sub-k : tie.Need-sub-k
-sub-k c = search needs
+    let e = c .number-line3 .ensures in
+    (e .0, e .1 ∙ rw (sym (c .before .before .before .before .before .before .before .before .before .before .before .counts-hold .ensures) ∙ not-false _ (c .before .before .before .before .before .before .before .before .before .before .if1 .left), ne-eqb _ _ (c .before .before .before .before .before .before .before .before .before .if2 .left), ne-eqb _ _ (c .before .before .before .before .before .before .before .before .if3 .left), ne-eqb _ _ (c .before .before .before .before .before .before .before .if4 .left), eq-eqb _ _ (c .before .before .before .before .before .before .if5 .taken), reportLine))
 
 segment-line-requires : tie.Need-segment-line-requires
-segment-line-requires c κs = (sym (c .before .before .before .before .before .before .before .before .counts-hold .ensures) ∙ not-false _ (c .before .before .before .before .before .before .before .if1 .left), c .before .if6 .taken, c .before .before .before .before .before .before .before .before .before .before .before .before .before .before .before .before .pre)
-
-same-length-5 : tie.Need-same-length-5
-same-length-5 c = search needs
+segment-line-requires c κs = (sym (c .before .before .before .before .before .before .before .before .counts-hold .ensures) ∙ not-false _ (c .before .before .before .before .before .before .before .if1 .left), c .before .if6 .taken, search needs)
 
 returns-6 : tie.Need-returns-6
 unfolding reportLine
 returns-6 c =
-    let e = c .before .before .segment-line .ensures in
-    (e .0, e .1 ∙ rw (sym (c .before .before .before .before .before .before .before .before .before .before .before .counts-hold .ensures) ∙ not-false _ (c .before .before .before .before .before .before .before .before .before .before .if1 .left), ne-eqb _ _ (c .before .before .before .before .before .before .before .before .before .if2 .left), ne-eqb _ _ (c .before .before .before .before .before .before .before .before .if3 .left), ne-eqb _ _ (c .before .before .before .before .before .before .before .if4 .left), ne-eqb _ _ (c .before .before .before .before .before .before .if5 .left), lt-ltb _ _ (c .before .before .before .before .if6 .taken), reportLine))
+    let e = c .segment-line .ensures in
+    (e .0, e .1 ∙ rw (sym (c .before .before .before .before .before .before .before .before .before .counts-hold .ensures) ∙ not-false _ (c .before .before .before .before .before .before .before .before .if1 .left), ne-eqb _ _ (c .before .before .before .before .before .before .before .if2 .left), ne-eqb _ _ (c .before .before .before .before .before .before .if3 .left), ne-eqb _ _ (c .before .before .before .before .before .if4 .left), ne-eqb _ _ (c .before .before .before .before .if5 .left), lt-ltb _ _ (c .before .before .if6 .taken), reportLine))
 
 returns-7 : tie.Need-returns-7
 unfolding reportLine
@@ -104,28 +63,23 @@ pub line-spec : {M : Type 1} → statement M
 line-spec =
     tie.close
     (tie.spec
-    counts-hold-requires
+    (λ c κs. search needs)
     returns
-    end-line-requires
-    same-length
+    (λ c κs. search needs)
     returns-2
-    slice-aggregate-number-line
-    number-line-requires
-    same-length-2
+    (λ c. search needs)
+    (λ c κs. search needs)
     returns-3
-    slice-aggregate-number-line-2
-    number-line-requires-2
-    same-length-3
+    (λ c. search needs)
+    (λ c κs. search needs)
     returns-4
-    slice-aggregate-number-line-3
+    (λ c. search needs)
     mul-number-line
     add-number-line
     add-number-line-2
-    number-line-requires-3
-    same-length-4
+    (λ c κs. search needs)
     returns-5
-    sub-k
+    (λ c. search needs)
     segment-line-requires
-    same-length-5
     returns-6
     returns-7)

@@ -1,6 +1,6 @@
-use mathlib.Core.Path.{_≡_, _∙_}
+-- The texts follow one another as in the rule, 137 bytes at most; each number is the table's entry.
+use mathlib.Core.Path.{_∙_}
 use native.Mathlib.Omega.{arith}
-use Rattle.rules.specs.Refusals.{widthAt}
 use Rattle.laws.proofs.Counts.{counts-facts}
 use Rattle.dump_text.specs.Report.{segmentLine}
 use borrow.Author.Needs.{needs}
@@ -25,44 +25,11 @@ mul-offset c = omega (arith, counts-facts _ (c .before .before .before .before .
 shared-slice-read-offset : tie.Need-shared-slice-read-offset
 shared-slice-read-offset c = omega (arith, counts-facts _ (c .before .before .before .before .before .before .before .before .before .pre .0), c .before .before .before .before .before .before .before .before .before .pre .1)
 
-slice-aggregate-put-field : tie.Need-slice-aggregate-put-field
-slice-aggregate-put-field c = search needs
-
-put-field-requires : tie.Need-put-field-requires
-put-field-requires c κs = search needs
-
-slice-aggregate-put-field-2 : tie.Need-slice-aggregate-put-field-2
-slice-aggregate-put-field-2 c = search needs
-
-put-field-requires-2 : tie.Need-put-field-requires-2
-put-field-requires-2 c κs = search needs
-
-slice-aggregate-put-field-3 : tie.Need-slice-aggregate-put-field-3
-slice-aggregate-put-field-3 c = search needs
-
-put-field-requires-3 : tie.Need-put-field-requires-3
-put-field-requires-3 c κs = search needs
-
-slice-aggregate-put-field-4 : tie.Need-slice-aggregate-put-field-4
-slice-aggregate-put-field-4 c = search needs
-
-put-field-requires-4 : tie.Need-put-field-requires-4
-put-field-requires-4 c κs = search needs
-
 width-of-requires : tie.Need-width-of-requires
 width-of-requires c κs = omega (arith, counts-facts _ (c .before .before .before .before .before .before .before .before .before .before .before .before .before .before .before .before .before .before .before .before .before .before .before .before .before .before .before .before .before .before .pre .0))
 
-put-width-requires : tie.Need-put-width-requires
-put-width-requires c κs = search needs
-
-slice-aggregate-put : tie.Need-slice-aggregate-put
-slice-aggregate-put c = search needs
-
 put-requires : tie.Need-put-requires
 put-requires c κs = omega (arith, c .before .before .before .before .before .before .before .before .before .before .before .before .before .before .before .before .before .before .before .before .before .before .before .before .put-field .ensures .0, c .before .before .before .before .before .before .before .before .before .before .before .before .before .before .before .before .before .before .before .put-field2 .ensures .0, c .before .before .before .before .before .before .before .before .before .before .before .before .before .before .put-field3 .ensures .0, c .before .before .before .before .before .before .before .before .before .put-field4 .ensures .0, c .before .before .before .before .put-width .ensures .0, c .before .before .before .before .before .before .before .before .before .before .before .before .before .before .before .before .before .before .before .before .before .before .before .before .before .before .before .before .before .before .before .before .before .before .before .before .pre .2)
-
-same-length : tie.Need-same-length
-same-length c = search needs
 
 returns : tie.Need-returns
 unfolding segmentLine
@@ -85,17 +52,17 @@ segment-line-spec =
     shared-slice-read-base
     mul-offset
     shared-slice-read-offset
-    slice-aggregate-put-field
-    put-field-requires
-    slice-aggregate-put-field-2
-    put-field-requires-2
-    slice-aggregate-put-field-3
-    put-field-requires-3
-    slice-aggregate-put-field-4
-    put-field-requires-4
+    (λ c. search needs)
+    (λ c κs. search needs)
+    (λ c. search needs)
+    (λ c κs. search needs)
+    (λ c. search needs)
+    (λ c κs. search needs)
+    (λ c. search needs)
+    (λ c κs. search needs)
     width-of-requires
-    put-width-requires
-    slice-aggregate-put
+    (λ c κs. search needs)
+    (λ c. search needs)
     put-requires
-    same-length
+    (λ c. search needs)
     returns)
