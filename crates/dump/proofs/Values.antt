@@ -10,7 +10,7 @@ use borrow.Author.Tests.{eqb-true, eqb-false, ltb-true, ltb-false, ne-eqb}
 use Rattle.rules.specs.Record.{Index, lengthOf, segmentsOf, widthsOf, lastOf, roomOf, countsHold}
 use Rattle.rules.specs.Push.{deltaAt, Plan, refuse, segment, first, more, segmentPlan, firstPlan, nextPlan, planOf, effect, pushRule}
 use Rattle.laws.proofs.Tests.{by-test, when-case, when-all-case}
-use Rattle.laws.proofs.Widths.{value-bytes}
+use Rattle.laws.proofs.Bytes.{delta-stored}
 use Rattle.dump.specs.Feeding.{Fed, fed, refusalOf, valueRule, byteRule, feedRule, bytesOf, pushAll}
 use Rattle.dump.proofs.Pieces.{value-fed}
 
@@ -40,7 +40,7 @@ values-fed (v ∷ vs) a x r =
     (λ t.
     let z = eqb-true r 0 t in
     rw z (value-fed x _ _ _ _ _ _ _ _ (bytesOf vs)
-    ∙ ap (λ u. feedRule (valueRule x u) (bytesOf vs)) (value-bytes 8 v (a .0))
+    ∙ ap (λ u. feedRule (valueRule x u) (bytesOf vs)) (delta-stored 8 v 0 (0 ∷ 0 ∷ 0 ∷ 0 ∷ 0 ∷ 0 ∷ 0 ∷ 0 ∷ []) (omega arith) (a .0))
     ∙ values-fed vs (a .1) (pushRule x v .left) (refusalOf (pushRule x v .answer))))
     (λ t.
     let h = eqb-false r 0 t in
