@@ -5,7 +5,6 @@ use Rattle.dump_text.proofs.Lines.{field-put}
 use Rattle.dump_text.proofs.Decimal.{fewest-most, decimal-of}
 use mathlib.Core.Path.{_∙_}
 use native.Mathlib.Omega.{arith}
-use Rattle.dump_text.proofs.Decimal.{decimal-of}
 use borrow.Author.Needs.{needs}
 use Rattle.dump_text.proofs.put_field.Statement.{statement}
 use Rattle.dump_text.proofs.put_field.Tie as tie
