@@ -1,9 +1,7 @@
 // Feeding an index with 8-byte little-endian values from an input that comes in pieces of any length.
 use rules::Pushed;
-use rules::Refusal;
 use rules::State;
 ghost use mathlib.Core.Path.{_≡_};
-ghost use Rattle.rules.specs.Refusals.{numberOf};
 ghost use Rattle.dump.specs.Feeding.{fedOf, nothing, withByte, carriedAfter, byteRule, feedRule};
 
 // What is carried from one piece of the input to the next.
@@ -113,26 +111,7 @@ fn pushed_on(pushed: Pushed) -> Carried
             state,
             count: 0,
             partial: 0,
-            refusal: number_of(e),
+            refusal: crossing::number_of(e),
         },
-    }
-}
-
-// The number of a refusal.
-fn number_of(e: Refusal) -> u64
-    ensures { λ r. ⌜ r ≡ numberOf e ⌝ }
-{
-    match e {
-        Refusal::Below => 1,
-        Refusal::SegmentRoom => 2,
-        Refusal::WidthRoom => 3,
-        Refusal::DataRoom => 4,
-        Refusal::Position => 5,
-        Refusal::RangeEnd => 6,
-        Refusal::Reversed => 7,
-        Refusal::OutputRoom => 8,
-        Refusal::Counts => 9,
-        Refusal::Damaged => 10,
-        Refusal::Minimum => 11,
     }
 }
