@@ -17,7 +17,7 @@ use Rattle.replay_tally.specs.declared.Progress.{Progress}
 
 -- word i of a record: eight bytes, least significant first
 abbrev pub wordOf : List ℕ → ℕ → ℕ
-wordOf record i = deltaAt record (8 * i) 8
+wordOf w i = deltaAt w (8 * i) 8
 
 -- the call that a record names
 abbrev pub callOf : List ℕ → Call
@@ -80,7 +80,7 @@ goingOf p starts bases offsets widths bytes out = going (index (p .state) starts
 
 -- after a call: what it left, and its answer counted
 abbrev pub tallied : Tally → List ℕ → Played → Going
-tallied t record p = going (p .index) (p .cursor) (p .out) (counted t (callOf record .kind) (dueOf record) (p .reply))
+tallied t w p = going (p .index) (p .cursor) (p .out) (counted t (callOf w .kind) (dueOf w) (p .reply))
 
 -- the tally with a tail of n bytes
 abbrev pub withTail : Tally → ℕ → Tally
@@ -88,6 +88,6 @@ withTail t n = tally (t .records) (t .differ) (t .unknown) n (t .first)
 
 -- a record of which n bytes came: fewer than 64 are a tail; otherwise its call by the rules, counted
 unfoldable pub takeRule : Going → List ℕ → ℕ → Going
-takeRule g record n =
+takeRule g w n =
     when (ltb n 64) (going (g .index) (g .cursor) (g .out) (withTail (g .tally) n))
-    (tallied (g .tally) record (replayRule (g .index) (g .cursor) (g .out) (callOf record)))
+    (tallied (g .tally) w (replayRule (g .index) (g .cursor) (g .out) (callOf w)))

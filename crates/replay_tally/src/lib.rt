@@ -81,11 +81,11 @@ pub fn take(
     widths: &mut [u8],
     bytes: &mut [u8],
     out: &mut [u64],
-    record: &[u8; 64],
+    recorded: &[u8; 64],
     n: u64,
 ) -> Progress
     ensures { λ r. ⌜ goingOf r (now (starts .exit)) (now (bases .exit)) (now (offsets .exit)) (now (widths .exit)) (now (bytes .exit)) (now (out .exit))
-        ≡ takeRule (goingOf progress (now (starts .entry)) (now (bases .entry)) (now (offsets .entry)) (now (widths .entry)) (now (bytes .entry)) (now (out .entry))) (now (record .entry)) n ⌝ }
+        ≡ takeRule (goingOf progress (now (starts .entry)) (now (bases .entry)) (now (offsets .entry)) (now (widths .entry)) (now (bytes .entry)) (now (out .entry))) (now (recorded .entry)) n ⌝ }
 {
     let state = progress.state;
     let cursor = progress.cursor;
@@ -97,8 +97,8 @@ pub fn take(
             tally: with_tail(tally, n),
         };
     }
-    let call = call_of(record);
-    let due = due_of(record);
+    let call = call_of(recorded);
+    let due = due_of(recorded);
     let done = replay::replay(state, cursor, starts, bases, offsets, widths, bytes, out, call);
     let state = done.state;
     let cursor = done.cursor;
@@ -111,34 +111,34 @@ pub fn take(
 }
 
 // The call that a record names.
-fn call_of(record: &[u8; 64]) -> Call
-    ensures { λ r. ⌜ r ≡ callOf (now (record .entry)) ⌝ }
+fn call_of(recorded: &[u8; 64]) -> Call
+    ensures { λ r. ⌜ r ≡ callOf (now (recorded .entry)) ⌝ }
 {
     Call {
-        kind: word(record, 0),
-        a: word(record, 1),
-        b: word(record, 2),
-        c: word(record, 3),
+        kind: word(recorded, 0),
+        a: word(recorded, 1),
+        b: word(recorded, 2),
+        c: word(recorded, 3),
     }
 }
 
 // The answer that a record says is due.
-fn due_of(record: &[u8; 64]) -> Reply
-    ensures { λ r. ⌜ r ≡ dueOf (now (record .entry)) ⌝ }
+fn due_of(recorded: &[u8; 64]) -> Reply
+    ensures { λ r. ⌜ r ≡ dueOf (now (recorded .entry)) ⌝ }
 {
     Reply {
-        answered: word(record, 4),
-        r: word(record, 5),
-        s: word(record, 6),
+        answered: word(recorded, 4),
+        r: word(recorded, 5),
+        s: word(recorded, 6),
     }
 }
 
 // Word i of a record.
-fn word(record: &[u8; 64], i: u64) -> u64
+fn word(recorded: &[u8; 64], i: u64) -> u64
     requires { ⌜ i < 8 ⌝ }
-    ensures { λ r. ⌜ r ≡ wordOf (now (record .entry)) i ⌝ }
+    ensures { λ r. ⌜ r ≡ wordOf (now (recorded .entry)) i ⌝ }
 {
-    delta::delta_at(record, 8 * i, 8)
+    delta::delta_at(recorded, 8 * i, 8)
 }
 
 // Counts a record: it differs exactly where a number of its answer does.
