@@ -57,7 +57,7 @@ counted t kind due found =
     when (sameReply due found)
     (tally (oneMore (t .records)) (t .differ) (unknownAfter (t .unknown) found) (t .tail) (t .first))
     (tally (oneMore (t .records)) (oneMore (t .differ)) (unknownAfter (t .unknown) found) (t .tail)
-        (firstOf (t .first) (difference (oneMore (t .records)) kind due found)))
+    (firstOf (t .first) (difference (oneMore (t .records)) kind due found)))
 
 -- a replay on its way: index, cursor and output as the calls so far left them, and what has been counted
 pub record Going : Type 0 where

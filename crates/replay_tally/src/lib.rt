@@ -99,7 +99,17 @@ pub fn take(
     }
     let call = call_of(recorded);
     let due = due_of(recorded);
-    let done = replay::replay(state, cursor, starts, bases, offsets, widths, bytes, out, call);
+    let done = replay::replay(
+        state,
+        cursor,
+        starts,
+        bases,
+        offsets,
+        widths,
+        bytes,
+        out,
+        call,
+    );
     let state = done.state;
     let cursor = done.cursor;
     let found = done.reply;
