@@ -166,10 +166,10 @@ fn read_reply(
         ));
     }
     if kind == 11 {
-        return got_reply(compact_reader::bisect_left(s, starts, bases, offsets, widths, bytes, a));
+        return got_reply(compact_bisect::bisect_left(s, starts, bases, offsets, widths, bytes, a));
     }
     if kind == 12 {
-        return got_reply(compact_reader::bisect_range_left(
+        return got_reply(compact_bisect::bisect_range_left(
             s,
             starts,
             bases,
