@@ -159,10 +159,10 @@ fn against_n() {
     println!("Packet offsets, nanoseconds, {}.\n", ENGINES.join(" / "));
     println!("| n | push, a value | get, at random | bisect_left, at random |");
     println!("|---|---|---|---|");
-    for n in [1_000, 10_000, 100_000, 1_000_000] {
+    for (n, name) in [(1_000, "1,000"), (10_000, "10,000"), (100_000, "100,000"), (1_000_000, "1,000,000")] {
         let input = Input::new(NAMES[0], n);
         let mut engines = ENGINES.map(|engine| Filled::new(engine, &input));
         let times = [Push, Get, Bisect].map(|operation| measure(operation, &input, &mut engines).map(time).join(" / "));
-        println!("| {n} | {} |", times.join(" | "));
+        println!("| {name} | {} |", times.join(" | "));
     }
 }

@@ -13,7 +13,7 @@ use crate::twin::Twin;
 pub const ENGINES: [&str; 4] = ["proved", "twin", "original", "plain"];
 
 /// How many rounds each engine is timed for.
-pub const ROUNDS: usize = 15;
+pub const ROUNDS: usize = 21;
 
 /// One engine, filled with an input's values, and the room that it writes ranges into.
 pub struct Filled {
