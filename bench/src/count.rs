@@ -25,7 +25,7 @@ pub fn run(engine: &str, input: usize) {
 
 #[inline(never)]
 fn counted(filled: &mut Filled, operation: Operation, input: &Input) {
-    let answer = filled.index.round(operation, input, ASKED, &mut filled.out);
+    let answer = filled.index.round(operation, input, 0..ASKED, &mut filled.out);
     black_box(answer);
 }
 

@@ -1,5 +1,7 @@
 //! What is measured of every engine, and the loops that measure it.
 
+use std::ops::Range;
+
 use crate::inputs::Input;
 use crate::proved::Lent;
 
@@ -25,6 +27,11 @@ impl Operation {
         Operation::Walk,
         Operation::Audit,
     ];
+
+    /// Whether a round asks questions, each a call.
+    pub fn asks(self) -> bool {
+        matches!(self, Operation::Get | Operation::Bisect | Operation::RangeOf16)
+    }
 
     /// The operation as the tables name it.
     pub fn name(self) -> &'static str {
@@ -76,8 +83,8 @@ pub trait Index {
     fn size(&self) -> u64;
     fn lent(&mut self) -> Option<&mut Lent>;
     /// One round of an operation: its answers mixed into one number, or none where the engine lacks it.
-    /// Of positions and values, the first `most` are asked for.
-    fn round(&mut self, operation: Operation, input: &Input, most: usize, out: &mut Vec<u64>) -> Option<u64>;
+    /// Of the positions and values, those in `asked` are asked for.
+    fn round(&mut self, operation: Operation, input: &Input, asked: Range<usize>, out: &mut Vec<u64>) -> Option<u64>;
 }
 
 /// The loops are compiled for each engine, so a call in them is a direct one.
@@ -97,11 +104,11 @@ impl<E: Engine> Index for E {
     }
 
     #[inline(never)]
-    fn round(&mut self, operation: Operation, input: &Input, most: usize, out: &mut Vec<u64>) -> Option<u64> {
+    fn round(&mut self, operation: Operation, input: &Input, asked: Range<usize>, out: &mut Vec<u64>) -> Option<u64> {
         if operation == Operation::Push {
             return Some(input.values.iter().fold(0, |sum, &value| mix(sum, self.push(value))));
         }
-        let (positions, wanted) = (&input.positions[..most], &input.wanted[..most]);
+        let (positions, wanted) = (&input.positions[asked.clone()], &input.wanted[asked]);
         let length = input.values.len() as u64;
         let mut reader = self.reader();
         match operation {

@@ -1,9 +1,10 @@
 //! Timing: processor time of this thread, the best of several rounds, the engines taking turns within each round.
 
 use std::mem;
+use std::ops::Range;
 
 use crate::index::{Index, Operation};
-use crate::inputs::Input;
+use crate::inputs::{Input, QUESTIONS};
 use crate::original::Original;
 use crate::plain::Plain;
 use crate::proved::Proved;
@@ -14,6 +15,9 @@ pub const ENGINES: [&str; 4] = ["proved", "twin", "original", "plain"];
 
 /// How many rounds each engine is timed for.
 pub const ROUNDS: usize = 21;
+
+/// Into how many parts the questions are cut: a short part is less often disturbed.
+const PARTS: usize = 10;
 
 /// One engine, filled with an input's values, and the room that it writes ranges into.
 pub struct Filled {
@@ -33,59 +37,76 @@ impl Filled {
             _ => panic!("no engine {engine}"),
         };
         let mut out = vec![0; n];
-        index.round(Operation::Push, input, 0, &mut out);
+        index.round(Operation::Push, input, 0..0, &mut out);
         Filled { index, out }
     }
 
-    /// One round of an operation, and its nanoseconds: none where the engine lacks it.
-    fn round(&mut self, operation: Operation, input: &Input, most: usize) -> Option<(f64, u64)> {
+    /// A round of an operation, or a part of one: its nanoseconds and its answers mixed, or none where the engine lacks it.
+    fn round(&mut self, operation: Operation, input: &Input, asked: Range<usize>) -> Option<(f64, u64)> {
         self.index.empty_for(operation);
         let before = processor_time();
-        let answer = self.index.round(operation, input, most, &mut self.out)?;
+        let answers = self.index.round(operation, input, asked, &mut self.out)?;
         let time = processor_time() - before;
         if operation == Operation::RangeOfAll {
             assert!(self.out == input.values, "{}: another range of all", input.name);
         }
-        Some((time, answer))
+        Some((time, answers))
     }
 }
 
 /// The best times of the four engines, in nanoseconds for one call or value, in microseconds for an audit; none where an engine lacks the operation.
 pub type Times = [Option<f64>; 4];
 
-/// Measures an operation. Every round of every engine must give the plain vector's answers, where that has the operation.
+/// Measures an operation. Every part of every round must give the plain vector's answers, where that has the operation.
 pub fn measure(operation: Operation, input: &Input, engines: &mut [Filled; 4]) -> Times {
-    let asked: [usize; 4] = std::array::from_fn(|engine| match operation {
-        // The original reads the whole segment for each search: it is asked the first few questions alone.
-        Operation::Bisect if ENGINES[engine] == "original" && input.name == "one long segment" => 10,
-        _ => input.positions.len(),
-    });
-    let right = asked.map(|asked| engines[3].round(operation, input, asked));
-    let mut best = [None; 4];
+    let parts = ENGINES.map(|engine| parts(operation, input, engine));
+    let right = parts.each_ref().map(|parts| answers(&mut engines[3], operation, input, parts));
+    let mut best = parts.each_ref().map(|parts| vec![f64::INFINITY; parts.len()]);
     for _ in 0..ROUNDS {
         for engine in 0..4 {
             lend(engines, engine);
             // A first round warms the caches, alike for each engine.
-            engines[engine].round(operation, input, asked[engine]);
-            let Some((time, answer)) = engines[engine].round(operation, input, asked[engine]) else {
-                continue;
-            };
-            if let Some((_, right)) = right[engine] {
-                assert!(answer == right, "{}: {} answers otherwise on {operation:?}", input.name, ENGINES[engine]);
+            answers(&mut engines[engine], operation, input, &parts[engine]);
+            for (part, asked) in parts[engine].iter().enumerate() {
+                let Some((time, answers)) = engines[engine].round(operation, input, asked.clone()) else {
+                    continue;
+                };
+                let right = right[engine][part].unwrap_or(answers);
+                assert!(answers == right, "{}: {} answers otherwise on {operation:?}", input.name, ENGINES[engine]);
+                best[engine][part] = best[engine][part].min(time);
             }
-            let time = time / units(operation, input, asked[engine]);
-            best[engine] = Some(best[engine].map_or(time, |best: f64| best.min(time)));
         }
     }
-    best
+    std::array::from_fn(|engine| {
+        let asked = parts[engine].iter().map(Range::len).sum();
+        let time: f64 = best[engine].iter().sum();
+        time.is_finite().then_some(time / units(operation, input, asked))
+    })
+}
+
+/// The parts of a round: where it asks questions, a tenth of them each.
+fn parts(operation: Operation, input: &Input, engine: &str) -> Vec<Range<usize>> {
+    let asked = match operation {
+        // The original reads the whole segment for each search: it is asked the first few questions alone.
+        Operation::Bisect if engine == "original" && input.name == "one long segment" => PARTS,
+        operation if operation.asks() => QUESTIONS,
+        _ => return vec![0..0],
+    };
+    (0..PARTS).map(|part| part * asked / PARTS..(part + 1) * asked / PARTS).collect()
+}
+
+/// The answers of each part.
+fn answers(engine: &mut Filled, operation: Operation, input: &Input, parts: &[Range<usize>]) -> Vec<Option<u64>> {
+    let answer = |asked: &Range<usize>| engine.round(operation, input, asked.clone()).map(|(_, answers)| answers);
+    parts.iter().map(answer).collect()
 }
 
 /// What a round is divided by: its calls, or the values that it handles.
 pub fn units(operation: Operation, input: &Input, asked: usize) -> f64 {
     match operation {
-        Operation::Get | Operation::Bisect | Operation::RangeOf16 => asked as f64,
-        Operation::Push | Operation::RangeOfAll | Operation::Walk => input.values.len() as f64,
         Operation::Audit => 1000.0,
+        operation if operation.asks() => asked as f64,
+        _ => input.values.len() as f64,
     }
 }
 
