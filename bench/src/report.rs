@@ -80,7 +80,7 @@ fn goals(rows: &[Row]) {
         let counts: Vec<f64> = rows.iter().filter(|_| engine == TWIN).map(|row| row.counted()).collect();
         let on = if inputs.len() == 4 { "all four".into() } else { inputs.join(", ") };
         println!(
-            "| {} at most {most} of the {}'s | {on} | {} | {} | {} | {} |",
+            "| {} at most {most:?} of the {}'s | {on} | {} | {} | {} | {} |",
             operation.name(),
             ENGINES[engine],
             ratios(&times),
