@@ -134,7 +134,7 @@ fn times(rows: &[Row]) {
 
 fn instructions(rows: &[Row]) {
     println!("## Instructions\n");
-    println!("Counted by callgrind, the call included; the same in every run.\n");
+    println!("Counted by callgrind, the call included; they hardly differ between runs.\n");
     println!("| operation | input | proved | twin | proved / twin |");
     println!("|---|---|---|---|---|");
     for row in rows {

@@ -86,13 +86,13 @@ pub fn measure(operation: Operation, input: &Input, engines: &mut [Filled; 4]) -
 
 /// The parts of a round: where it asks questions, a tenth of them each.
 fn parts(operation: Operation, input: &Input, engine: &str) -> Vec<Range<usize>> {
-    let asked = match operation {
+    let (asked, parts) = match operation {
         // The original reads the whole segment for each search: it is asked the first few questions alone.
-        Operation::Bisect if engine == "original" && input.name == "one long segment" => PARTS,
-        operation if operation.asks() => QUESTIONS,
-        _ => return vec![0..0],
+        Operation::Bisect if engine == "original" && input.name == "one long segment" => (PARTS, PARTS),
+        operation if operation.asks() => (QUESTIONS, PARTS),
+        _ => (0, 1),
     };
-    (0..PARTS).map(|part| part * asked / PARTS..(part + 1) * asked / PARTS).collect()
+    (0..parts).map(|part| part * asked / parts..(part + 1) * asked / parts).collect()
 }
 
 /// The answers of each part.

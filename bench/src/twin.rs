@@ -1,4 +1,5 @@
-//! Document 01 as plain Rust over slices: what one writes without proofs. Every index is tested at run time.
+//! Document 01 as plain Rust over slices: what one writes without proofs. Every index is tested at run time. Its answers are
+//! compared on the tables that are measured, which are well formed; on others nothing was run.
 //!
 //! The entry points are kept out of line, as the border's are.
 
