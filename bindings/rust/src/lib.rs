@@ -56,6 +56,7 @@ impl Refusal {
     }
 
     /// `Ok` for 0, otherwise the refusal of this number.
+    #[inline]
     fn check(number: u64) -> Result<(), Refusal> {
         match number {
             0 => Ok(()),
@@ -155,6 +156,7 @@ pub struct TablesMut<'a> {
 }
 
 /// Adds a value at the end, and answers its position.
+#[inline]
 pub fn push(state: &mut State, tables: TablesMut, value: u64) -> Result<u64, Refusal> {
     let mut position = 0;
     Refusal::check(unsafe {
@@ -211,6 +213,7 @@ pub struct View<'a> {
 
 impl<'a> View<'a> {
     /// How many values there are.
+    #[inline]
     pub fn len(&self) -> Result<u64, Refusal> {
         let mut value = 0;
         call!(rotlantern_length, self, &mut value)?;
@@ -218,11 +221,13 @@ impl<'a> View<'a> {
     }
 
     /// Whether there is no value.
+    #[inline]
     pub fn is_empty(&self) -> Result<bool, Refusal> {
         Ok(self.len()? == 0)
     }
 
     /// How many bytes the index takes.
+    #[inline]
     pub fn size(&self) -> Result<u64, Refusal> {
         let mut value = 0;
         call!(rotlantern_size, self, &mut value)?;
@@ -230,6 +235,7 @@ impl<'a> View<'a> {
     }
 
     /// The value at a position.
+    #[inline]
     pub fn get(&self, position: u64) -> Result<u64, Refusal> {
         let mut value = 0;
         call!(rotlantern_get, self, position, &mut value)?;
@@ -237,6 +243,7 @@ impl<'a> View<'a> {
     }
 
     /// The values at a..b, into `out` from its first entry; answers how many.
+    #[inline]
     pub fn get_range(&self, a: u64, b: u64, out: &mut [u64]) -> Result<u64, Refusal> {
         let mut count = 0;
         call!(
@@ -252,6 +259,7 @@ impl<'a> View<'a> {
     }
 
     /// A walk over a..b. It stops at its first refusal.
+    #[inline]
     pub fn iter(&self, a: u64, b: u64) -> Result<Iter<'a>, Refusal> {
         let mut cursor = Cursor::default();
         call!(rotlantern_iter, self, a, b, &mut cursor)?;
@@ -263,6 +271,7 @@ impl<'a> View<'a> {
     }
 
     /// The range of values from the one at a position to the next one, or to the target length.
+    #[inline]
     pub fn target_range(&self, position: u64, target_length: u64) -> Result<(u64, u64), Refusal> {
         let (mut start, mut end) = (0, 0);
         call!(
@@ -277,6 +286,7 @@ impl<'a> View<'a> {
     }
 
     /// The leftmost position where a value would be ordered.
+    #[inline]
     pub fn bisect_left(&self, value: u64) -> Result<u64, Refusal> {
         let mut position = 0;
         call!(rotlantern_bisect_left, self, value, &mut position)?;
@@ -284,6 +294,7 @@ impl<'a> View<'a> {
     }
 
     /// The same, raised to at least a and lowered to at most b.
+    #[inline]
     pub fn bisect_range_left(&self, a: u64, b: u64, value: u64) -> Result<u64, Refusal> {
         let mut position = 0;
         call!(
@@ -298,6 +309,7 @@ impl<'a> View<'a> {
     }
 
     /// Whether the tables are well formed, or the first rule that fails.
+    #[inline]
     pub fn audit(&self) -> Verdict {
         let (mut letter, mut segment) = (0, 0);
         let answered = call!(rotlantern_audit, self, &mut letter, &mut segment);
@@ -320,6 +332,7 @@ pub struct Iter<'a> {
 impl Iterator for Iter<'_> {
     type Item = Result<u64, Refusal>;
 
+    #[inline]
     fn next(&mut self) -> Option<Self::Item> {
         if self.refused {
             return None;

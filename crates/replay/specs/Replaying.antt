@@ -1,5 +1,5 @@
 -- What a recorded call answers by the rules, in a record's numbers, and what it leaves for the next call.
-use Prim.Native.Nat.{ℕ, _+_}
+use Prim.Native.Nat.{ℕ}
 use mathlib.Core.List.{List}
 use lib.Dec.{ltb, eqb}
 use lib.ListN.{length, getD}
@@ -8,7 +8,7 @@ use Rattle.rules.specs.declared.Cursor.{Cursor}
 use Rattle.rules.specs.declared.Pushed.{Pushed}
 use Rattle.rules.specs.Words.{when, unless, Answer, value, refused}
 use Rattle.rules.specs.Record.{Index, index, segmentsOf, widthsOf, usedOf, openRule}
-use Rattle.rules.specs.Push.{Outcome, pushRule, lengthRule, sizeRule, deltaAt}
+use Rattle.rules.specs.Push.{Outcome, pushRule, lengthRule, sizeRule}
 use Rattle.rules.specs.Reading.{Ranged, Span, Stepped, done, gave, stays, getRule, rangeRule, iterRule, stepRule, targetRule, bisectRule, bisectRangeRule}
 use Rattle.rules.specs.Refusals.{numberOf}
 use Rattle.replay.specs.declared.Call.{Call}

@@ -5,7 +5,7 @@ use mathlib.Core.List.{List, [], _∷_}
 use lib.Dec.{ltb, eqb}
 use Rattle.rules.specs.declared.State.{State}
 use Rattle.rules.specs.declared.Cursor.{Cursor}
-use Rattle.rules.specs.Words.{when, unless, _≡?_, when-all}
+use Rattle.rules.specs.Words.{when, _≡?_, when-all}
 use Rattle.rules.specs.Record.{Index, index}
 use Rattle.rules.specs.Push.{deltaAt}
 use Rattle.replay.specs.declared.Call.{Call}

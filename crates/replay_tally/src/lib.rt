@@ -4,7 +4,6 @@ use replay::Reply;
 use rules::Cursor;
 use rules::State;
 ghost use mathlib.Core.Path.{_≡_};
-ghost use mathlib.Core.Bool.{true, false};
 ghost use Prim.Native.Nat.{_<_};
 ghost use Rattle.replay.specs.Replaying.{reply};
 ghost use Rattle.rules.specs.Record.{freshState};

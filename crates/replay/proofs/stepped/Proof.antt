@@ -1,24 +1,7 @@
+-- One return for each form of the answer.
 use borrow.Author.Needs.{needs}
 use Rattle.replay.proofs.stepped.Statement.{statement}
 use Rattle.replay.proofs.stepped.Tie as tie
-
-enum-told : tie.Need-enum-told
-enum-told c = search needs
-
-pair-requires : tie.Need-pair-requires
-pair-requires c κs = search needs
-
-enum-known-step : tie.Need-enum-known-step
-enum-known-step c = search needs
-
-number-requires : tie.Need-number-requires
-number-requires c κs = search needs
-
-enum-known-step-2 : tie.Need-enum-known-step-2
-enum-known-step-2 c = search needs
-
-refusal-requires : tie.Need-refusal-requires
-refusal-requires c κs = search needs
 
 returns : tie.Need-returns
 returns c = rw (c .pair .ensures, c .before .enum-told .given .1)
@@ -33,12 +16,12 @@ pub stepped-spec : {M : Type 1} → statement M
 stepped-spec =
     tie.close
     (tie.spec
-    enum-told
-    pair-requires
-    enum-known-step
-    number-requires
-    enum-known-step-2
-    refusal-requires
+    (λ c. search needs)
+    (λ c κs. search needs)
+    (λ c. search needs)
+    (λ c κs. search needs)
+    (λ c. search needs)
+    (λ c κs. search needs)
     returns
     returns-2
     returns-3)

@@ -1,18 +1,7 @@
+-- One return for each form of the answer.
 use borrow.Author.Needs.{needs}
 use Rattle.replay.proofs.target_reply.Statement.{statement}
 use Rattle.replay.proofs.target_reply.Tie as tie
-
-enum-known-target : tie.Need-enum-known-target
-enum-known-target c = search needs
-
-pair-requires : tie.Need-pair-requires
-pair-requires c κs = search needs
-
-enum-known-target-2 : tie.Need-enum-known-target-2
-enum-known-target-2 c = search needs
-
-refusal-requires : tie.Need-refusal-requires
-refusal-requires c κs = search needs
 
 returns : tie.Need-returns
 returns c = rw (c .pair .ensures, c .before .before .target .given .1)
@@ -24,9 +13,9 @@ pub target-reply-spec : {M : Type 1} → statement M
 target-reply-spec =
     tie.close
     (tie.spec
-    enum-known-target
-    pair-requires
-    enum-known-target-2
-    refusal-requires
+    (λ c. search needs)
+    (λ c κs. search needs)
+    (λ c. search needs)
+    (λ c κs. search needs)
     returns
     returns-2)

@@ -1,3 +1,4 @@
+-- The rule's test, decided by the branch.
 use borrow.Author.Tests.{eq-eqb, ne-eqb}
 use Rattle.replay_tally.specs.Tallying.{firstOf}
 use Rattle.replay_tally.proofs.first_of.Statement.{statement}

@@ -1,3 +1,4 @@
+-- A number that differs refutes the tests; three that are equal prove them.
 use mathlib.Core.Path.{sym}
 use native.Mathlib.Omega.{arith}
 use Rattle.laws.proofs.Tests.{taken, left}

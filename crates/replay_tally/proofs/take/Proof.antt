@@ -1,3 +1,4 @@
+-- A tail is the rule's first test; a whole record is its call, replayed and counted (record-taken).
 use borrow.Author.Tests.{lt-ltb, le-ltb}
 use Rattle.replay_tally.specs.Tallying.{takeRule}
 use Rattle.replay_tally.proofs.Takes.{record-taken}
@@ -5,42 +6,9 @@ use borrow.Author.Needs.{needs}
 use Rattle.replay_tally.proofs.take.Statement.{statement}
 use Rattle.replay_tally.proofs.take.Tie as tie
 
-with-tail-requires : tie.Need-with-tail-requires
-with-tail-requires c κs = search needs
-
 returns : tie.Need-returns
 unfolding takeRule
 returns c = rw (lt-ltb _ _ (c .before .if1 .taken), c .with-tail .ensures, takeRule)
-
-call-of-requires : tie.Need-call-of-requires
-call-of-requires c κs = search needs
-
-due-of-requires : tie.Need-due-of-requires
-due-of-requires c κs = search needs
-
-replay-requires : tie.Need-replay-requires
-replay-requires c κs = search needs
-
-count-requires : tie.Need-count-requires
-count-requires c κs = search needs
-
-same-length : tie.Need-same-length
-same-length c = search needs
-
-same-length-2 : tie.Need-same-length-2
-same-length-2 c = search needs
-
-same-length-3 : tie.Need-same-length-3
-same-length-3 c = search needs
-
-same-length-4 : tie.Need-same-length-4
-same-length-4 c = search needs
-
-same-length-5 : tie.Need-same-length-5
-same-length-5 c = search needs
-
-same-length-6 : tie.Need-same-length-6
-same-length-6 c = search needs
 
 returns-2 : tie.Need-returns-2
 unfolding takeRule
@@ -50,16 +18,16 @@ pub take-spec : {M : Type 1} → statement M
 take-spec =
     tie.close
     (tie.spec
-    with-tail-requires
+    (λ c κs. search needs)
     returns
-    call-of-requires
-    due-of-requires
-    replay-requires
-    count-requires
-    same-length
-    same-length-2
-    same-length-3
-    same-length-4
-    same-length-5
-    same-length-6
+    (λ c κs. search needs)
+    (λ c κs. search needs)
+    (λ c κs. search needs)
+    (λ c κs. search needs)
+    (λ c. search needs)
+    (λ c. search needs)
+    (λ c. search needs)
+    (λ c. search needs)
+    (λ c. search needs)
+    (λ c. search needs)
     returns-2)

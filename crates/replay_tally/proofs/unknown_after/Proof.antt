@@ -1,11 +1,9 @@
+-- The rule's test, decided by the branch.
 use borrow.Author.Tests.{eq-eqb, ne-eqb}
 use Rattle.replay_tally.specs.Tallying.{unknownAfter}
 use borrow.Author.Needs.{needs}
 use Rattle.replay_tally.proofs.unknown_after.Statement.{statement}
 use Rattle.replay_tally.proofs.unknown_after.Tie as tie
-
-one-more-requires : tie.Need-one-more-requires
-one-more-requires c κs = search needs
 
 returns : tie.Need-returns
 unfolding unknownAfter
@@ -16,4 +14,4 @@ unfolding unknownAfter
 returns-2 c = rw (ne-eqb _ _ (c .if1 .left), unknownAfter)
 
 pub unknown-after-spec : {M : Type 1} → statement M
-unknown-after-spec = tie.close (tie.spec one-more-requires returns returns-2)
+unknown-after-spec = tie.close (tie.spec (λ c κs. search needs) returns returns-2)
