@@ -2,6 +2,17 @@
 //!
 //! [`CompactIndex`] owns its tables and grows them. [`View`] reads tables that somebody else owns, and [`push`]
 //! appends to them. Every call answers as the rules of `crates/rules/specs` say; a refused call changes nothing.
+//!
+//! ```
+//! let mut index = rotlantern::CompactIndex::new(1)?;
+//! for v in [0, 0, 256, 256, 512] {
+//!     index.push(v)?;
+//! }
+//! assert_eq!(index.get(3), Ok(256));
+//! assert_eq!(index.bisect_left(257), Ok(4));
+//! assert_eq!(index.get(5), Err(rotlantern::Refusal::Position));
+//! # Ok::<(), rotlantern::Refusal>(())
+//! ```
 
 mod sys;
 
