@@ -17,10 +17,11 @@ use Rattle.laws.proofs.Tests.{by-test, same-test, both, fact, facts-of, taken, 
 use Rattle.laws.proofs.Widths.{width-holds, width-least}
 use Rattle.laws.proofs.Bytes.{delta-room, delta-below}
 
--- what a call answered, once the code has gone on past `if !call` or has stopped there
+-- what a call answered, once the code has gone on past `if !call`
 pub passed : {a b : Bool} → a ≡ b → not a ≡ false → b ≡ true
 passed e n = sym e ∙ not-false _ n
 
+-- the same, stopped
 pub failed : {a b : Bool} → a ≡ b → not a ≡ true → b ≡ false
 failed e n = sym e ∙ not-true _ n
 
