@@ -48,7 +48,7 @@ mod-scale q b M k pos h =
     ap (λ z. z % (M * k)) e ∙ add-mul-mod-self-left (q % M * k + b) (M * k) (q / M) ∙ mod-eq-of-lt (omega arith)
 
 -- more bytes, cut to the first w, are the delta of w bytes
-pub delta-mod : (w k : ℕ) (s : List ℕ) (at : ℕ) → at + (w + k) ≤ length s → ((i : ℕ) → i < length s → getD s i 0 < 256) → deltaAt s at (w + k) % 256 ^ w ≡ deltaAt s at w
+delta-mod : (w k : ℕ) (s : List ℕ) (at : ℕ) → at + (w + k) ≤ length s → ((i : ℕ) → i < length s → getD s i 0 < 256) → deltaAt s at (w + k) % 256 ^ w ≡ deltaAt s at w
 unfolding deltaAt
 delta-mod zero k s at h b = mod-one _
 delta-mod (suc w) k s at h b =
@@ -74,11 +74,17 @@ module _ (w : ℕ) (least : 1 ≤ w) (most : w ≤ 8) where
   some = one-le-pow (64 - 8 * w) 2 (lit< tt)
 
   -- a word shifted up and down again keeps its low w bytes
-  pub shift-cut : (x : ℕ) → x * 2 ^ (64 - 8 * w) % 2 ^ 64 / 2 ^ (64 - 8 * w) ≡ x % 256 ^ w
+  shift-cut : (x : ℕ) → x * 2 ^ (64 - 8 * w) % 2 ^ 64 / 2 ^ (64 - 8 * w) ≡ x % 256 ^ w
   shift-cut x =
       let e = mod-scale x 0 (256 ^ w) above (one-le-pow w 256 (lit< tt)) some in
       let e1 : x * above % 18446744073709551616 ≡ x % 256 ^ w * above = rw (← split) (ap (λ z. z % (256 ^ w * above)) (omega arith) ∙ e ∙ omega arith) in
       ap (λ z. z / above) e1 ∙ mul-div-cancel (x % 256 ^ w) some
+
+  -- so w bytes or more, shifted up and down again, are the delta of w bytes
+  pub word-cut : (s : List ℕ) (at n : ℕ) → w ≤ n → at + n ≤ length s → ((i : ℕ) → i < length s → getD s i 0 < 256) → deltaAt s at n * 2 ^ (64 - 8 * w) % 2 ^ 64 / 2 ^ (64 - 8 * w) ≡ deltaAt s at w
+  word-cut s at n more h b =
+      let e : n ≡ w + (n - w) = omega arith in
+      shift-cut (deltaAt s at n) ∙ ap (λ x. deltaAt s at x % 256 ^ w) e ∙ delta-mod w (n - w) s at (omega arith) b
 
   -- the largest 64-bit number shifted down is the largest of w bytes
   shift-most : 18446744073709551615 / above + 1 ≡ 256 ^ w

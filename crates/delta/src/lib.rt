@@ -42,17 +42,16 @@ pub fn store_delta(tail: &mut [u8], delta: u64, width: u64)
     }
 }
 
-// The delta of `width` bytes that starts at `at`: where eight bytes are left, one load of eight, cut to the width.
+// The delta of `width` bytes that starts at `at`: the eight bytes from there on, or as many as are left, cut to the width.
 pub fn delta_at(bytes: &[u8], at: u64, width: u64) -> u64
     requires { ⌜ (1 ≤ width) × (width ≤ 8) × (at + width ≤ length (now bytes)) ⌝ }
     ensures { λ r. ⌜ r ≡ deltaAt (now (bytes .entry)) at width ⌝ }
 {
-    if 8 <= bytes.len() as u64 - at {
-        let word = load(bytes, at, 8);
-        let cut = 64 - 8 * width;
-        return word << cut >> cut;
+    let cut = 64 - 8 * width;
+    if at + 8 <= bytes.len() as u64 {
+        return load(bytes, at, 8) << cut >> cut;
     }
-    load(bytes, at, width)
+    load(bytes, at, bytes.len() as u64 - at) << cut >> cut
 }
 
 // The number that `width` bytes from `at` on make, taken from the last to the first.
