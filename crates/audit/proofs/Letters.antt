@@ -1,34 +1,21 @@
 -- Each letter's tests, decided by differences, quotients and byte widths that fit 64 bits.
 use Prim.Native.Nat.{ℕ, _+_, _-_, _*_, _/_, _%_, _^_, _≤_, _<_}
-use mathlib.Core.Bool.{Bool, true, false, not, _&&_}
-use mathlib.Core.List.{List, _∷_}
+use mathlib.Core.Bool.{true, false, _&&_}
+use mathlib.Core.List.{List}
 use mathlib.Core.Path.{_≡_, sym, ap, _∙_}
 use native.Mathlib.Omega.{arith}
 use native.Mathlib.Nat.{div-add-mod', mul-mod-left, mul-div-cancel, pow-le-pow-right, lt-of-lt-of-le}
 use lib.Dec.{ltb, leb, eqb, lit<}
 use lib.ListN.{length, getD}
-use borrow.Author.Tests.{not-true, not-false, ltb-true, ltb-false, leb-true, eqb-true, lt-ltb, le-leb, eq-eqb}
-use Rattle.rules.specs.Words.{Test, _≡?_, _⇒?_, holds, when-all, allBelow}
+use borrow.Author.Tests.{ltb-true, ltb-false, leb-true, eqb-true, lt-ltb, le-leb, eq-eqb}
+use Rattle.rules.specs.Words.{_≡?_, _⇒?_, holds, when-all, allBelow}
 use Rattle.rules.specs.Record.{Index, minimumOf, lengthOf, segmentsOf, widthsOf, usedOf, start, base, offset, edge, mark, widthTests}
 use Rattle.rules.specs.Push.{byteWidth, deltaAt}
 use Rattle.rules.specs.Audit.{testsE}
 use Rattle.audit.specs.Letters.{ruleB, ruleC, ruleD, ruleE, ruleF}
-use Rattle.laws.proofs.Tests.{by-test, same-test, both, fact, facts-of, taken, left, all-fact, all-held}
+use Rattle.laws.proofs.Tests.{by-test, same-test, both, fact, facts-of, taken, left, all-fact, all-held, first-fails}
 use Rattle.laws.proofs.Widths.{width-holds, width-least}
 use Rattle.laws.proofs.Bytes.{delta-room, delta-below}
-
--- what a call answered, once the code has gone on past `if !call`
-pub passed : {a b : Bool} → a ≡ b → not a ≡ false → b ≡ true
-passed e n = sym e ∙ not-false _ n
-
--- the same, stopped
-pub failed : {a b : Bool} → a ≡ b → not a ≡ true → b ≡ false
-failed e n = sym e ∙ not-true _ n
-
--- a list whose first test fails
-pub first-fails : (t : Test) (ts : List Test) → holds t ≡ false → when-all (t ∷ ts) true false ≡ false
-unfolding when-all
-first-fails t ts e = rw (e, when-all)
 
 -- a segment begins at its start
 edge-at : (x : Index) (k : ℕ) → k < segmentsOf x → edge x k ≡ start x k

@@ -5,12 +5,13 @@ use rules::State;
 use rules::Width;
 use tables::Checked;
 ghost use mathlib.Core.Path.{_≡_};
-ghost use mathlib.Core.Bool.{true};
 ghost use Prim.Native.Nat.{_≤_, _<_, min, max};
 ghost use lib.ListN.{length};
-ghost use Rattle.rules.specs.Record.{index, countsHold};
+ghost use Rattle.rules.specs.Words.{Facts};
+ghost use Rattle.rules.specs.Record.{index};
 ghost use Rattle.rules.specs.Reading.{deltaSearch, bisectIn, bisectRule, bisectRangeRule};
 ghost use Rattle.rules.specs.Refusals.{answerOf};
+ghost use Rattle.laws.specs.Orders.{ordersOf};
 
 // The first position whose value is not below v, or the length if there is none, as halving finds it: exact where the values never fall.
 pub fn bisect_left(
@@ -48,7 +49,7 @@ fn bisect_in(
     k: u64,
     v: u64,
 ) -> Got
-    requires { ⌜ (countsHold (index s (now starts) (now bases) (now offsets) (now widths) (now bytes)) ≡ true) × (k < s .segments) ⌝ }
+    requires { ⌜ Facts (ordersOf (index s (now starts) (now bases) (now offsets) (now widths) (now bytes))) × (k < s .segments) ⌝ }
     ensures { λ r. ⌜ answerOf r ≡ bisectIn (index s (now (starts .entry)) (now (bases .entry)) (now (offsets .entry)) (now (widths .entry)) (now (bytes .entry))) k v ⌝ }
 {
     let start = starts[k as usize];

@@ -5,13 +5,14 @@ use rules::State;
 use rules::Target;
 use rules::Width;
 ghost use mathlib.Core.Path.{_≡_};
-ghost use mathlib.Core.Bool.{true};
 ghost use Prim.Native.Nat.{_≤_, _<_};
 ghost use lib.ListN.{length};
-ghost use Rattle.rules.specs.Record.{index, countsHold};
+ghost use Rattle.rules.specs.Words.{Facts};
+ghost use Rattle.rules.specs.Record.{index};
 ghost use Rattle.rules.specs.Push.{lengthRule, sizeRule};
 ghost use Rattle.rules.specs.Reading.{deltaRead, readIn, getRule, targetEnd, targetRule};
 ghost use Rattle.rules.specs.Refusals.{answerOf, targetOf};
+ghost use Rattle.laws.specs.Orders.{ordersOf};
 
 // How many values the index holds.
 pub fn length(
@@ -83,7 +84,7 @@ pub fn read_in(
     k: u64,
     p: u64,
 ) -> Got
-    requires { ⌜ (countsHold (index s (now starts) (now bases) (now offsets) (now widths) (now bytes)) ≡ true) × (k < s .segments) ⌝ }
+    requires { ⌜ Facts (ordersOf (index s (now starts) (now bases) (now offsets) (now widths) (now bytes))) × (k < s .segments) ⌝ }
     ensures { λ r. ⌜ answerOf r ≡ readIn (index s (now (starts .entry)) (now (bases .entry)) (now (offsets .entry)) (now (widths .entry)) (now (bytes .entry))) k p ⌝ }
 {
     let start = starts[k as usize];

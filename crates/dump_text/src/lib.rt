@@ -3,11 +3,12 @@ use dump::Carried;
 use rules::State;
 use rules::Width;
 ghost use mathlib.Core.Path.{_≡_};
-ghost use mathlib.Core.Bool.{true};
 ghost use mathlib.Core.List.{_++_};
 ghost use Prim.Native.Nat.{_+_, _≤_, _<_};
 ghost use lib.ListN.{length, take};
-ghost use Rattle.rules.specs.Record.{index, countsHold};
+ghost use Rattle.rules.specs.Words.{Facts};
+ghost use Rattle.rules.specs.Record.{index};
+ghost use Rattle.laws.specs.Orders.{ordersOf};
 ghost use Rattle.dump.specs.Feeding.{fedOf};
 ghost use Rattle.dump_text.specs.Report.{decimal, newline, endLine, widthText, segmentLine, reportLine, Begins};
 
@@ -84,7 +85,7 @@ fn segment_line(
     k: u64,
     out: &mut [u8],
 ) -> u64
-    requires { ⌜ (countsHold (index s (now starts) (now bases) (now offsets) (now widths) (now bytes)) ≡ true) × (k < s .segments) × (160 ≤ length (now out)) ⌝ }
+    requires { ⌜ Facts (ordersOf (index s (now starts) (now bases) (now offsets) (now widths) (now bytes))) × (k < s .segments) × (160 ≤ length (now out)) ⌝ }
     ensures { λ r. ⌜ Begins r (now (out .exit)) (segmentLine (index s (now (starts .entry)) (now (bases .entry)) (now (offsets .entry)) (now (widths .entry)) (now (bytes .entry))) k) ⌝ }
 {
     let start = starts[k as usize];

@@ -6,7 +6,7 @@ use denote.Ref.{now}
 use Rattle.rules.specs.Record.{Index, index}
 use Rattle.rules.specs.Audit.{auditRule, auditFrom, verdictOf}
 use Rattle.laws.proofs.Counts.{counts-facts}
-use Rattle.audit.proofs.Letters.{passed, failed}
+use Rattle.laws.proofs.Tests.{passed, failed}
 use Rattle.audit.proofs.Order.{audit-counts, audit-start, audit-on, audit-stop, audit-end}
 use borrow.Author.Needs.{needs}
 use Rattle.audit.proofs.audit.Statement.{statement}
@@ -24,9 +24,6 @@ abbrev μ-loop : tie.MeasureT-loop
 abbrev X : tie.Start Inv-loop μ-loop → Index
 X s = let a = s .args in index (a .s) (now (a .starts)) (now (a .bases)) (now (a .offsets)) (now (a .widths)) (now (a .bytes))
 
-counts-hold-requires : tie.Need-counts-hold-requires Inv-loop μ-loop
-counts-hold-requires c κs = search needs
-
 returns : tie.Need-returns Inv-loop μ-loop
 returns c = sym (audit-counts _ (failed (c .before .counts-hold .ensures) (c .if1 .taken)))
 
@@ -36,22 +33,10 @@ loop-holds c = (refl, audit-start _ (passed (c .before .counts-hold .ensures) (c
 audit-segment-requires : tie.Need-audit-segment-requires Inv-loop μ-loop
 audit-segment-requires c κs = (counts-facts _ (passed (c .before .before .before .counts-hold .ensures) (c .before .before .if1 .left)), omega arith)
 
-enum-told : tie.Need-enum-told Inv-loop μ-loop
-enum-told c = search needs
-
-enum-told-2 : tie.Need-enum-told-2 Inv-loop μ-loop
-enum-told-2 c = search needs
-
 returns-2 : tie.Need-returns-2 Inv-loop μ-loop
 returns-2 c =
     let l = c .before .before .before .before .loop in
     audit-stop (X (c .before .before .before .before .before .before .before .before .before .before .before .before)) _ (l .k) (c .before .before .audit-segment .result) (omega arith) (c .before .before .audit-segment .ensures) (c .enum-told2 .given .1) ∙ sym (l .inv .1)
-
-add-k : tie.Need-add-k Inv-loop μ-loop
-add-k c = omega arith
-
-loop-less : tie.Need-loop-less Inv-loop μ-loop
-loop-less c = omega arith
 
 loop-again : tie.Need-loop-again Inv-loop μ-loop
 loop-again c =
@@ -62,19 +47,6 @@ returns-3 : tie.Need-returns-3 Inv-loop μ-loop
 returns-3 c = let l = c .before .loop in sym (l .inv .1 ∙ audit-end (X (c .before .before .before .before .before .before .before .before .before)) _ (l .k) (omega arith))
 
 pub audit-spec : {M : Type 1} → statement M
-audit-spec =
-    tie.close
-    (tie.spec
-    Inv-loop
-    μ-loop
-    counts-hold-requires
-    returns
-    loop-holds
-    audit-segment-requires
-    enum-told
-    enum-told-2
-    returns-2
-    add-k
-    loop-less
-    loop-again
-    returns-3)
+audit-spec = tie.close (tie.spec
+    Inv-loop μ-loop (λ c κs. search needs) returns loop-holds audit-segment-requires (λ c. search needs)
+    (λ c. search needs) returns-2 (λ c. omega arith) (λ c. omega arith) loop-again returns-3)

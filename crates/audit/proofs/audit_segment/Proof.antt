@@ -8,7 +8,8 @@ use Rattle.rules.specs.Record.{Index, index, width}
 use Rattle.rules.specs.Audit.{rulesOf, firstFlaw}
 use Rattle.laws.proofs.Answers.{width-there, width-absent}
 use Rattle.audit.specs.Letters.{rulesCtoF}
-use Rattle.audit.proofs.Letters.{passed, failed, b-room}
+use Rattle.laws.proofs.Tests.{passed, failed}
+use Rattle.audit.proofs.Letters.{b-room}
 use Rattle.audit.proofs.Order.{flaw-here, past-b, without-flaw, without-none}
 use borrow.Author.Needs.{needs}
 use Rattle.audit.proofs.audit_segment.Statement.{statement}
@@ -17,9 +18,6 @@ use Rattle.audit.proofs.audit_segment.Tie as tie
 -- the index
 abbrev X : tie.Start → Index
 X s = let a = s .args in index (a .s) (now (a .starts)) (now (a .bases)) (now (a .offsets)) (now (a .widths)) (now (a .bytes))
-
-rule-b-requires : tie.Need-rule-b-requires
-rule-b-requires c κs = search needs
 
 returns : tie.Need-returns
 returns c = sym (flaw-here _ _ _ (failed (c .before .rule-b .ensures) (c .if1 .taken)))
@@ -35,15 +33,6 @@ past : (c : tie.After-deltas-of) (w : ℕ) → let s = c .before .before .before
 past c w e =
     let s = c .before .before .before .before .before .before .before .before in
     past-b (X s) (s .args .k) _ w (passed (c .before .before .rule-b .ensures) (c .before .if1 .left)) (c .deltas-of .ensures) e
-
-width-of-requires : tie.Need-width-of-requires
-width-of-requires c κs = search needs
-
-enum-known-w : tie.Need-enum-known-w
-enum-known-w c = search needs
-
-enum-told : tie.Need-enum-told
-enum-told c = search needs
 
 -- the segment has no width
 none : (c : tie.After-enum-told) → let a = c .before .before .before .before .before .before .before .before .before .before .before .args in a .s .widths ≤ a .k
@@ -70,9 +59,6 @@ returns-3 c =
     let e = passed (c .before .rule-e-without-width .ensures (width (X s) k)) (c .if2 .left) in
     sym (without-none (X s) k _ _ h (omega (arith, h, s .pre)) e) ∙ past (c .before .before .before .before .before) _ refl
 
-cast-audit-with-width : tie.Need-cast-audit-with-width
-cast-audit-with-width c = search needs
-
 audit-with-width-requires : tie.Need-audit-with-width-requires
 audit-with-width-requires c κs =
     let s = c .before .before .before .before .before .before .before .before .before .before .before .before in
@@ -85,18 +71,6 @@ returns-4 c =
     c .audit-with-width .ensures ∙ past (c .before .before .before .before .before) _ (sym (w .1))
 
 pub audit-segment-spec : {M : Type 1} → statement M
-audit-segment-spec =
-    tie.close
-    (tie.spec
-    rule-b-requires
-    returns
-    deltas-of-requires
-    width-of-requires
-    enum-known-w
-    enum-told
-    rule-e-without-width-requires
-    returns-2
-    returns-3
-    cast-audit-with-width
-    audit-with-width-requires
-    returns-4)
+audit-segment-spec = tie.close (tie.spec
+    (λ c κs. search needs) returns deltas-of-requires (λ c κs. search needs) (λ c. search needs) (λ c. search needs)
+    rule-e-without-width-requires returns-2 returns-3 (λ c. search needs) audit-with-width-requires returns-4)

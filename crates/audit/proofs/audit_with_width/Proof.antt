@@ -9,9 +9,9 @@ use denote.Ref.{now}
 use Rattle.rules.specs.Words.{Facts, when-all}
 use Rattle.rules.specs.Record.{Index, index, widthTests}
 use Rattle.rules.specs.Audit.{firstFlaw}
-use Rattle.laws.proofs.Tests.{facts-of}
+use Rattle.laws.proofs.Tests.{facts-of, passed, failed}
 use Rattle.audit.specs.Letters.{ruleF, rulesCtoF}
-use Rattle.audit.proofs.Letters.{passed, failed, c-same, e-room, f-same}
+use Rattle.audit.proofs.Letters.{c-same, e-room, f-same}
 use Rattle.audit.proofs.Order.{flaw-none, flaw-next, flaw-here}
 use borrow.Author.Needs.{needs}
 use Rattle.audit.proofs.audit_with_width.Statement.{statement}
@@ -27,9 +27,6 @@ Past n s =
     let a = s .args in
     let rules = rulesCtoF (X s) (a .k) (a .d) (a .w) in
     firstFlaw (a .k) rules ≡ firstFlaw (a .k) (drop n rules)
-
-rule-c-requires : tie.Need-rule-c-requires
-rule-c-requires c κs = search needs
 
 returns : tie.Need-returns
 returns c =
@@ -63,18 +60,6 @@ returns-3 c = sym (past-d (c .before .before) ∙ flaw-here _ _ _ (failed (c .be
 past-e : (c : tie.Else3) → Past 3 (c .before .before .before .before .before .before .before .before .before)
 past-e c = past-d (c .before .before) ∙ flaw-next _ _ _ (passed (c .before .rule-e .ensures) (c .if3 .left))
 
-mul-rule-f : tie.Need-mul-rule-f
-mul-rule-f c = search needs
-
-shared-slice-read-rule-f : tie.Need-shared-slice-read-rule-f
-shared-slice-read-rule-f c = search needs
-
-mul-rule-f-2 : tie.Need-mul-rule-f-2
-mul-rule-f-2 c = search needs
-
-shared-slice-read-rule-f-2 : tie.Need-shared-slice-read-rule-f-2
-shared-slice-read-rule-f-2 c = search needs
-
 rule-f-requires : tie.Need-rule-f-requires
 rule-f-requires c κs =
     let s = c .before .before .before .before .before .before .before .before .before .before .before in
@@ -97,19 +82,6 @@ returns-5 : tie.Need-returns-5
 returns-5 c = sym (past-e (c .before .before .before .before) ∙ flaw-next _ _ _ (passed (f-rule (c .before)) (c .if4 .left)) ∙ flaw-none _)
 
 pub audit-with-width-spec : {M : Type 1} → statement M
-audit-with-width-spec =
-    tie.close
-    (tie.spec
-    rule-c-requires
-    returns
-    rule-d-requires
-    returns-2
-    rule-e-requires
-    returns-3
-    mul-rule-f
-    shared-slice-read-rule-f
-    mul-rule-f-2
-    shared-slice-read-rule-f-2
-    rule-f-requires
-    returns-4
-    returns-5)
+audit-with-width-spec = tie.close (tie.spec
+    (λ c κs. search needs) returns rule-d-requires returns-2 rule-e-requires returns-3 (λ c. search needs)
+    (λ c. search needs) (λ c. search needs) (λ c. search needs) rule-f-requires returns-4 returns-5)

@@ -12,4 +12,5 @@ returns-2 : tie.Need-returns-2
 returns-2 c = rw (ne-eqb _ _ (c .if1 .left), holds)
 
 pub first-is-zero-spec : {M : Type 1} → statement M
-first-is-zero-spec = tie.close (tie.spec returns returns-2)
+first-is-zero-spec = tie.close (tie.spec
+    returns returns-2)

@@ -16,4 +16,5 @@ returns c =
     (λ t. let f = facts-of (widthTests (a .minimum) (a .w)) t in rw (le-leb (a .minimum) (a .w) (f .0), le-leb (a .w) 8 (f .1 .0)))
 
 pub rule-c-spec : {M : Type 1} → statement M
-rule-c-spec = tie.close (tie.spec returns)
+rule-c-spec = tie.close (tie.spec
+    returns)

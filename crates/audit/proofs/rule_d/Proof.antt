@@ -12,34 +12,13 @@ use borrow.Author.Needs.{needs}
 use Rattle.audit.proofs.rule_d.Statement.{statement}
 use Rattle.audit.proofs.rule_d.Tie as tie
 
-add-if1 : tie.Need-add-if1
-add-if1 c = search needs
-
 returns : tie.Need-returns
 returns c = sym (taken _ _ _ (omega arith))
-
-mul-base : tie.Need-mul-base
-mul-base c = search needs
-
-shared-slice-read-base : tie.Need-shared-slice-read-base
-shared-slice-read-base c = search needs
-
-add-next : tie.Need-add-next
-add-next c = search needs
-
-mul-next : tie.Need-mul-next
-mul-next c = search needs
-
-shared-slice-read-next : tie.Need-shared-slice-read-next
-shared-slice-read-next c = search needs
 
 returns-2 : tie.Need-returns-2
 returns-2 c =
     let a = c .before .before .before .before .before .before .args in
     sym (d-back (index (a .s) [] (now (a .bases)) [] [] []) (a .k) (a .w) (c .before .before .before .if1 .left) (c .if2 .taken))
-
-byte-width-requires : tie.Need-byte-width-requires
-byte-width-requires c κs = search needs
 
 returns-3 : tie.Need-returns-3
 returns-3 c =
@@ -47,16 +26,6 @@ returns-3 c =
     ap (ltb (a .w)) (c .byte-width .ensures) ∙ d-same (index (a .s) [] (now (a .bases)) [] [] []) (a .k) (a .w) (c .before .before .before .before .if1 .left) (omega (arith, c .before .before .before .before .before .before .shared-slice-known .given (a .k + 1))) (c .before .if2 .left) (omega arith)
 
 pub rule-d-spec : {M : Type 1} → statement M
-rule-d-spec =
-    tie.close
-    (tie.spec
-    add-if1
-    returns
-    mul-base
-    shared-slice-read-base
-    add-next
-    mul-next
-    shared-slice-read-next
-    returns-2
-    byte-width-requires
-    returns-3)
+rule-d-spec = tie.close (tie.spec
+    (λ c. search needs) returns (λ c. search needs) (λ c. search needs) (λ c. search needs) (λ c. search needs)
+    (λ c. search needs) returns-2 (λ c κs. search needs) returns-3)

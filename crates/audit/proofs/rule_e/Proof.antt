@@ -4,22 +4,11 @@ use mathlib.Core.Path.{sym}
 use native.Mathlib.Omega.{arith}
 use denote.Ref.{now}
 use Rattle.rules.specs.Record.{index}
-use Rattle.audit.proofs.Letters.{passed, failed, e-zero, e-back, e-same}
+use Rattle.laws.proofs.Tests.{passed, failed}
+use Rattle.audit.proofs.Letters.{e-zero, e-back, e-same}
 use borrow.Author.Needs.{needs}
 use Rattle.audit.proofs.rule_e.Statement.{statement}
 use Rattle.audit.proofs.rule_e.Tie as tie
-
-entry-or-requires : tie.Need-entry-or-requires
-entry-or-requires c κs = search needs
-
-add-entry-or : tie.Need-add-entry-or
-add-entry-or c = search needs
-
-entry-or-requires-2 : tie.Need-entry-or-requires-2
-entry-or-requires-2 c κs = search needs
-
-first-is-zero-requires : tie.Need-first-is-zero-requires
-first-is-zero-requires c κs = search needs
 
 returns : tie.Need-returns
 returns c =
@@ -31,27 +20,12 @@ returns-2 c =
     let a = c .before .before .before .before .before .before .args in
     sym (e-back (index (a .s) [] [] (now (a .offsets)) [] []) (a .k) (a .d) (a .w) _ _ (c .before .before .before .before .entry-or .ensures) (c .before .before .before .entry-or2 .ensures) (omega arith) (c .if2 .taken))
 
-div-result : tie.Need-div-result
-div-result c = search needs
-
-rem-result : tie.Need-rem-result
-rem-result c = search needs
-
 returns-3 : tie.Need-returns-3
 returns-3 c =
     let a = c .before .before .before .before .before .before .args in
     e-same (index (a .s) [] [] (now (a .offsets)) [] []) (a .k) (a .d) (a .w) _ _ (c .before .before .before .before .entry-or .ensures) (c .before .before .before .entry-or2 .ensures) (omega arith) (omega arith) (passed (c .before .before .first-is-zero .ensures) (c .before .if1 .left)) (c .if2 .left)
 
 pub rule-e-spec : {M : Type 1} → statement M
-rule-e-spec =
-    tie.close
-    (tie.spec
-    entry-or-requires
-    add-entry-or
-    entry-or-requires-2
-    first-is-zero-requires
-    returns
-    returns-2
-    div-result
-    rem-result
-    returns-3)
+rule-e-spec = tie.close (tie.spec
+    (λ c κs. search needs) (λ c. search needs) (λ c κs. search needs) (λ c κs. search needs) returns returns-2
+    (λ c. search needs) (λ c. search needs) returns-3)

@@ -4,16 +4,11 @@ use mathlib.Core.Path.{refl, sym}
 use native.Mathlib.Omega.{arith}
 use denote.Ref.{now}
 use Rattle.rules.specs.Record.{index}
-use Rattle.audit.proofs.Letters.{passed, failed, e-zero, e-without}
+use Rattle.laws.proofs.Tests.{passed, failed}
+use Rattle.audit.proofs.Letters.{e-zero, e-without}
 use borrow.Author.Needs.{needs}
 use Rattle.audit.proofs.rule_e_without_width.Statement.{statement}
 use Rattle.audit.proofs.rule_e_without_width.Tie as tie
-
-entry-or-requires : tie.Need-entry-or-requires
-entry-or-requires c κs = search needs
-
-first-is-zero-requires : tie.Need-first-is-zero-requires
-first-is-zero-requires c κs = search needs
 
 returns : tie.Need-returns
 returns c =
@@ -26,5 +21,5 @@ returns-2 c =
     λ w. e-without (index (a .s) [] [] (now (a .offsets)) [] []) (a .k) (a .d) w _ _ (c .before .before .entry-or .ensures) refl (omega arith) (passed (c .before .first-is-zero .ensures) (c .if1 .left))
 
 pub rule-e-without-width-spec : {M : Type 1} → statement M
-rule-e-without-width-spec =
-    tie.close (tie.spec entry-or-requires first-is-zero-requires returns returns-2)
+rule-e-without-width-spec = tie.close (tie.spec
+    (λ c κs. search needs) (λ c κs. search needs) returns returns-2)

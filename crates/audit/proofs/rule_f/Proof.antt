@@ -19,16 +19,10 @@ Inv-deltas bytes base offset d w most i₀ i = (i ≤ d) × ((j : ℕ) → j < i
 abbrev μ-deltas : tie.MeasureT-deltas
 μ-deltas bytes base offset d w most i₀ i = d - i
 
-all-fit-requires : tie.Need-all-fit-requires Inv-deltas μ-deltas
-all-fit-requires c κs = search needs
-
 returns : tie.Need-returns Inv-deltas μ-deltas
 returns c =
     let a = c .before .before .before .args in
     sym (f-sure (now (a .bytes)) (a .base) (a .offset) (a .d) (a .w) (omega arith) (λ i l. omega (arith, c .before .before .shared-slice-known .given i)) (leb-true _ _ (sym (c .before .all-fit .ensures) ∙ c .if1 .taken)))
-
-sub-most : tie.Need-sub-most Inv-deltas μ-deltas
-sub-most c = search needs
 
 deltas-holds : tie.Need-deltas-holds Inv-deltas μ-deltas
 deltas-holds c = (omega arith, λ j l. absurd (omega arith))
@@ -39,21 +33,6 @@ room : (c : tie.Else2 Inv-deltas μ-deltas) → let a = c .before .before .befor
 room c =
     let a = c .before .before .before .before .before .args in
     delta-room (a .d) (a .w) (c .before .deltas .i) (c .if2 .left)
-
-mul-delta-at : tie.Need-mul-delta-at Inv-deltas μ-deltas
-mul-delta-at c = omega (arith, room c)
-
-add-delta-at : tie.Need-add-delta-at Inv-deltas μ-deltas
-add-delta-at c = omega (arith, room c)
-
-delta-at-requires : tie.Need-delta-at-requires Inv-deltas μ-deltas
-delta-at-requires c κs = omega (arith, room c)
-
-add-i : tie.Need-add-i Inv-deltas μ-deltas
-add-i c = search needs
-
-deltas-less : tie.Need-deltas-less Inv-deltas μ-deltas
-deltas-less c = search needs
 
 deltas-again : tie.Need-deltas-again Inv-deltas μ-deltas
 deltas-again c =
@@ -71,20 +50,7 @@ returns-3 c =
     sym (one-over (a .d) (λ (i : ℕ). a .base + deltaAt (now (a .bytes)) (a .offset + i * a .w) (a .w)) (2 ^ 64) (c .before .before .before .deltas .i) (omega arith) (omega (arith, c .before .delta-at .ensures)))
 
 pub rule-f-spec : {M : Type 1} → statement M
-rule-f-spec =
-    tie.close
-    (tie.spec
-    Inv-deltas
-    μ-deltas
-    all-fit-requires
-    returns
-    sub-most
-    deltas-holds
-    mul-delta-at
-    add-delta-at
-    delta-at-requires
-    add-i
-    deltas-less
-    deltas-again
-    returns-2
-    returns-3)
+rule-f-spec = tie.close (tie.spec
+    Inv-deltas μ-deltas (λ c κs. search needs) returns (λ c. search needs) deltas-holds (λ c. omega (arith, room c))
+    (λ c. omega (arith, room c)) (λ c κs. omega (arith, room c)) (λ c. search needs) (λ c. search needs) deltas-again
+    returns-2 returns-3)

@@ -4,17 +4,9 @@ use borrow.Author.Needs.{needs}
 use Rattle.border.proofs.rotlantern_get.Statement.{statement}
 use Rattle.border.proofs.rotlantern_get.Tie as tie
 
-state-at-requires : tie.Need-state-at-requires
-state-at-requires c κs = search needs
-
-get-requires : tie.Need-get-requires
-get-requires c κs = search needs
-
-tell-requires : tie.Need-tell-requires
-tell-requires c κs = search needs
-
 returns : tie.Need-returns
 returns c = c .tell .ensures ∙ rw (c .before .before .get .ensures, c .before .before .before .state-at .ensures)
 
 pub rotlantern-get-spec : {M : Type 1} → statement M
-rotlantern-get-spec = tie.close (tie.spec state-at-requires get-requires tell-requires returns)
+rotlantern-get-spec = tie.close (tie.spec
+    (λ c κs. search needs) (λ c κs. search needs) (λ c κs. search needs) returns)

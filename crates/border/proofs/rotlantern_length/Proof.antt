@@ -4,18 +4,9 @@ use borrow.Author.Needs.{needs}
 use Rattle.border.proofs.rotlantern_length.Statement.{statement}
 use Rattle.border.proofs.rotlantern_length.Tie as tie
 
-state-at-requires : tie.Need-state-at-requires
-state-at-requires c κs = search needs
-
-length-requires : tie.Need-length-requires
-length-requires c κs = search needs
-
-tell-requires : tie.Need-tell-requires
-tell-requires c κs = search needs
-
 returns : tie.Need-returns
 returns c = c .tell .ensures ∙ rw (c .before .before .length .ensures, c .before .before .before .state-at .ensures)
 
 pub rotlantern-length-spec : {M : Type 1} → statement M
-rotlantern-length-spec =
-    tie.close (tie.spec state-at-requires length-requires tell-requires returns)
+rotlantern-length-spec = tie.close (tie.spec
+    (λ c κs. search needs) (λ c κs. search needs) (λ c κs. search needs) returns)

@@ -4,14 +4,9 @@ use borrow.Author.Needs.{needs}
 use Rattle.border.proofs.rotlantern_open.Statement.{statement}
 use Rattle.border.proofs.rotlantern_open.Tie as tie
 
-compact-index-requires : tie.Need-compact-index-requires
-compact-index-requires c κs = search needs
-
-tell-opened-requires : tie.Need-tell-opened-requires
-tell-opened-requires c κs = search needs
-
 returns : tie.Need-returns
 returns c = c .tell-opened .ensures ∙ rw (c .before .before .compact-index .ensures)
 
 pub rotlantern-open-spec : {M : Type 1} → statement M
-rotlantern-open-spec = tie.close (tie.spec compact-index-requires tell-opened-requires returns)
+rotlantern-open-spec = tie.close (tie.spec
+    (λ c κs. search needs) (λ c κs. search needs) returns)

@@ -3,18 +3,9 @@ use borrow.Author.Needs.{needs}
 use Rattle.border_range.proofs.rotlantern_audit.Statement.{statement}
 use Rattle.border_range.proofs.rotlantern_audit.Tie as tie
 
-state-at-requires : tie.Need-state-at-requires
-state-at-requires c κs = search needs
-
-audit-requires : tie.Need-audit-requires
-audit-requires c κs = search needs
-
-tell-verdict-requires : tie.Need-tell-verdict-requires
-tell-verdict-requires c κs = search needs
-
 returns : tie.Need-returns
 returns c = rw (c .tell-verdict .ensures, c .before .before .before .audit .ensures, c .before .before .before .before .state-at .ensures)
 
 pub rotlantern-audit-spec : {M : Type 1} → statement M
-rotlantern-audit-spec =
-    tie.close (tie.spec state-at-requires audit-requires tell-verdict-requires returns)
+rotlantern-audit-spec = tie.close (tie.spec
+    (λ c κs. search needs) (λ c κs. search needs) (λ c κs. search needs) returns)

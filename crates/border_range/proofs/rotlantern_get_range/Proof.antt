@@ -5,23 +5,11 @@ use borrow.Author.Needs.{needs}
 use Rattle.border_range.proofs.rotlantern_get_range.Statement.{statement}
 use Rattle.border_range.proofs.rotlantern_get_range.Tie as tie
 
-state-at-requires : tie.Need-state-at-requires
-state-at-requires c κs = search needs
-
-get-range-requires : tie.Need-get-range-requires
-get-range-requires c κs = search needs
-
-tell-requires : tie.Need-tell-requires
-tell-requires c κs = search needs
-
-same-length : tie.Need-same-length
-same-length c = search needs
-
 returns : tie.Need-returns
 returns c =
     let e = c .before .before .before .before .get-range .ensures in
     (c .tell .ensures ∙ rw (ap (λ (k : Ranged). k .answer) e, c .before .before .before .before .before .before .state-at .ensures), ap (λ (k : Ranged). k .left) e ∙ rw (c .before .before .before .before .before .before .state-at .ensures))
 
 pub rotlantern-get-range-spec : {M : Type 1} → statement M
-rotlantern-get-range-spec =
-    tie.close (tie.spec state-at-requires get-range-requires tell-requires same-length returns)
+rotlantern-get-range-spec = tie.close (tie.spec
+    (λ c κs. search needs) (λ c κs. search needs) (λ c κs. search needs) (λ c. search needs) returns)

@@ -4,14 +4,9 @@ use borrow.Author.Needs.{needs}
 use Rattle.border_range.proofs.rotlantern_run_value.Statement.{statement}
 use Rattle.border_range.proofs.rotlantern_run_value.Tie as tie
 
-value-of-requires : tie.Need-value-of-requires
-value-of-requires c κs = search needs
-
-tell-requires : tie.Need-tell-requires
-tell-requires c κs = search needs
-
 returns : tie.Need-returns
 returns c = c .tell .ensures ∙ rw (c .before .before .value-of .ensures)
 
 pub rotlantern-run-value-spec : {M : Type 1} → statement M
-rotlantern-run-value-spec = tie.close (tie.spec value-of-requires tell-requires returns)
+rotlantern-run-value-spec = tie.close (tie.spec
+    (λ c κs. search needs) (λ c κs. search needs) returns)

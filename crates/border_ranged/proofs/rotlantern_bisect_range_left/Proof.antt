@@ -4,18 +4,9 @@ use borrow.Author.Needs.{needs}
 use Rattle.border_ranged.proofs.rotlantern_bisect_range_left.Statement.{statement}
 use Rattle.border_ranged.proofs.rotlantern_bisect_range_left.Tie as tie
 
-state-at-requires : tie.Need-state-at-requires
-state-at-requires c κs = search needs
-
-bisect-range-left-requires : tie.Need-bisect-range-left-requires
-bisect-range-left-requires c κs = search needs
-
-tell-requires : tie.Need-tell-requires
-tell-requires c κs = search needs
-
 returns : tie.Need-returns
 returns c = c .tell .ensures ∙ rw (c .before .before .bisect-range-left .ensures, c .before .before .before .state-at .ensures)
 
 pub rotlantern-bisect-range-left-spec : {M : Type 1} → statement M
-rotlantern-bisect-range-left-spec =
-    tie.close (tie.spec state-at-requires bisect-range-left-requires tell-requires returns)
+rotlantern-bisect-range-left-spec = tie.close (tie.spec
+    (λ c κs. search needs) (λ c κs. search needs) (λ c κs. search needs) returns)

@@ -4,18 +4,9 @@ use borrow.Author.Needs.{needs}
 use Rattle.border_ranged.proofs.rotlantern_target_range.Statement.{statement}
 use Rattle.border_ranged.proofs.rotlantern_target_range.Tie as tie
 
-state-at-requires : tie.Need-state-at-requires
-state-at-requires c κs = search needs
-
-target-range-requires : tie.Need-target-range-requires
-target-range-requires c κs = search needs
-
-tell-target-requires : tie.Need-tell-target-requires
-tell-target-requires c κs = search needs
-
 returns : tie.Need-returns
 returns c = c .tell-target .ensures ∙ rw (c .before .before .before .target-range .ensures, c .before .before .before .before .state-at .ensures)
 
 pub rotlantern-target-range-spec : {M : Type 1} → statement M
-rotlantern-target-range-spec =
-    tie.close (tie.spec state-at-requires target-range-requires tell-target-requires returns)
+rotlantern-target-range-spec = tie.close (tie.spec
+    (λ c κs. search needs) (λ c κs. search needs) (λ c κs. search needs) returns)

@@ -4,22 +4,9 @@ use borrow.Author.Needs.{needs}
 use Rattle.border_walk.proofs.rotlantern_next.Statement.{statement}
 use Rattle.border_walk.proofs.rotlantern_next.Tie as tie
 
-cursor-at-requires : tie.Need-cursor-at-requires
-cursor-at-requires c κs = search needs
-
-state-at-requires : tie.Need-state-at-requires
-state-at-requires c κs = search needs
-
-step-requires : tie.Need-step-requires
-step-requires c κs = search needs
-
-tell-step-requires : tie.Need-tell-step-requires
-tell-step-requires c κs = search needs
-
 returns : tie.Need-returns
 returns c = c .tell-step .ensures ∙ rw (c .before .before .before .before .step .ensures, c .before .before .before .before .before .state-at .ensures, c .before .before .before .before .before .before .cursor-at .ensures)
 
 pub rotlantern-next-spec : {M : Type 1} → statement M
-rotlantern-next-spec =
-    tie.close
-    (tie.spec cursor-at-requires state-at-requires step-requires tell-step-requires returns)
+rotlantern-next-spec = tie.close (tie.spec
+    (λ c κs. search needs) (λ c κs. search needs) (λ c κs. search needs) (λ c κs. search needs) returns)

@@ -7,30 +7,12 @@ use borrow.Author.Needs.{needs}
 use Rattle.compact_bisect.proofs.bisect_range_left.Statement.{statement}
 use Rattle.compact_bisect.proofs.bisect_range_left.Tie as tie
 
-check-range-requires : tie.Need-check-range-requires
-check-range-requires c κs = search needs
-
-enum-known-checked : tie.Need-enum-known-checked
-enum-known-checked c = search needs
-
 returns : tie.Need-returns
 unfolding bisectRangeRule
 returns c = range-refused _ _ _ _ (c .before .before .before .check-range .ensures) (c .before .checked .given .1)
 
-enum-told : tie.Need-enum-told
-enum-told c = search needs
-
-bisect-left-requires : tie.Need-bisect-left-requires
-bisect-left-requires c κs = search needs
-
-enum-known-k : tie.Need-enum-known-k
-enum-known-k c = search needs
-
 clamp-requires : tie.Need-clamp-requires
 clamp-requires c κs = range-facts _ _ _ (c .before .before .before .before .before .before .check-range .ensures) (c .before .before .before .before .enum-told .given .1) .2
-
-enum-known-e : tie.Need-enum-known-e
-enum-known-e c = search needs
 
 returns-2 : tie.Need-returns-2
 unfolding bisectRangeRule
@@ -41,16 +23,6 @@ unfolding bisectRangeRule
 returns-3 c = rw (sym (c .before .before .before .bisect-left .ensures) ∙ ap answerOf (c .before .e .given .1), bisectRangeRule) (range-good _ _ _ _ (c .before .before .before .before .before .before .check-range .ensures) (c .before .before .before .before .enum-told .given .1))
 
 pub bisect-range-left-spec : {M : Type 1} → statement M
-bisect-range-left-spec =
-    tie.close
-    (tie.spec
-    check-range-requires
-    enum-known-checked
-    returns
-    enum-told
-    bisect-left-requires
-    enum-known-k
-    clamp-requires
-    enum-known-e
-    returns-2
-    returns-3)
+bisect-range-left-spec = tie.close (tie.spec
+    (λ c κs. search needs) (λ c. search needs) returns (λ c. search needs) (λ c κs. search needs) (λ c. search needs)
+    clamp-requires (λ c. search needs) returns-2 returns-3)

@@ -12,18 +12,6 @@ returns : tie.Need-returns
 unfolding stepRule
 returns c = let from = c .before .before .before .before .before .before .args .c in rw (le-leb (from .end) (from .next) (omega arith))
 
-get-requires : tie.Need-get-requires
-get-requires c κs = search needs
-
-enum-known-v : tie.Need-enum-known-v
-enum-known-v c = search needs
-
-add-t15 : tie.Need-add-t15
-add-t15 c = search needs
-
-enum-known-e : tie.Need-enum-known-e
-enum-known-e c = search needs
-
 returns-2 : tie.Need-returns-2
 unfolding stepRule
 returns-2 c =
@@ -37,5 +25,5 @@ returns-3 c =
     rw (lt-leb (from .end) (from .next) (omega (arith, c .before .before .before .before .if1 .left)), sym (c .before .before .before .get .ensures) ∙ ap answerOf (c .before .e .given .1))
 
 pub step-spec : {M : Type 1} → statement M
-step-spec =
-    tie.close (tie.spec returns get-requires enum-known-v add-t15 enum-known-e returns-2 returns-3)
+step-spec = tie.close (tie.spec
+    returns (λ c κs. search needs) (λ c. search needs) (λ c. search needs) (λ c. search needs) returns-2 returns-3)

@@ -36,26 +36,11 @@ add-out c =
     let e = sum c in
     omega (arith, c .before .before .before .before .before .pre .4 (c .before .before .deltas .i) (omega arith))
 
-add-out-2 : tie.Need-add-out-2 Inv-deltas μ-deltas
-add-out-2 c = omega arith
-
-mul-out : tie.Need-mul-out Inv-deltas μ-deltas
-mul-out c = omega arith
-
-slice-write-out : tie.Need-slice-write-out Inv-deltas μ-deltas
-slice-write-out c = omega arith
-
 add-here : tie.Need-add-here Inv-deltas μ-deltas
 add-here c =
     let a = c .before .before .before .before .before .args in
     let r = delta-room (a .n) (a .width) (c .before .before .deltas .i) (omega arith) in
     omega arith
-
-add-i : tie.Need-add-i Inv-deltas μ-deltas
-add-i c = omega arith
-
-deltas-less : tie.Need-deltas-less Inv-deltas μ-deltas
-deltas-less c = omega arith
 
 deltas-again : tie.Need-deltas-again Inv-deltas μ-deltas
 deltas-again c =
@@ -78,20 +63,6 @@ returns c =
     c .before .deltas .inv .2 ∙ rw e
 
 pub fill-deltas-spec : {M : Type 1} → statement M
-fill-deltas-spec =
-    tie.close
-    (tie.spec
-    Inv-deltas
-    μ-deltas
-    deltas-holds
-    delta-at-requires
-    add-out
-    add-out-2
-    mul-out
-    slice-write-out
-    add-here
-    add-i
-    deltas-less
-    deltas-again
-    same-length
-    returns)
+fill-deltas-spec = tie.close (tie.spec
+    Inv-deltas μ-deltas deltas-holds delta-at-requires add-out (λ c. omega arith) (λ c. omega arith)
+    (λ c. omega arith) add-here (λ c. omega arith) (λ c. omega arith) deltas-again same-length returns)

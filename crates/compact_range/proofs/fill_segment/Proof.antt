@@ -13,30 +13,6 @@ use Rattle.compact_range.proofs.Writing.{RunOf, run-of, based-next, bas
 use Rattle.compact_range.proofs.fill_segment.Statement.{statement}
 use Rattle.compact_range.proofs.fill_segment.Tie as tie
 
-mul-start : tie.Need-mul-start
-mul-start c = search needs
-
-shared-slice-read-start : tie.Need-shared-slice-read-start
-shared-slice-read-start c = search needs
-
-mul-base : tie.Need-mul-base
-mul-base c = search needs
-
-shared-slice-read-base : tie.Need-shared-slice-read-base
-shared-slice-read-base c = search needs
-
-mul-offset : tie.Need-mul-offset
-mul-offset c = search needs
-
-shared-slice-read-offset : tie.Need-shared-slice-read-offset
-shared-slice-read-offset c = search needs
-
-put-base-requires : tie.Need-put-base-requires
-put-base-requires c κs = search needs
-
-same-length : tie.Need-same-length
-same-length c = search needs
-
 abbrev start : tie.After-put-base → tie.Start
 start c = c .before .before .before .before .before .before .before .before .before .before .before
 
@@ -53,18 +29,6 @@ returns c =
     let n = next d in
     let e : d .put-base .result - a .p ≡ a .until - a .p = omega (arith, n, c .if1 .taken) in
     based-puts (X d) (a .k) (a .p) (a .from) _ _ _ (d .put-base .ensures) ∙ ap (λ (k : ℕ). puts (inSegment (X d) (a .k) (a .p)) (a .from) k (now (a .out))) e
-
-width-of-requires : tie.Need-width-of-requires
-width-of-requires c κs = search needs
-
-enum-known-w : tie.Need-enum-known-w
-enum-known-w c = search needs
-
-enum-told : tie.Need-enum-told
-enum-told c = search needs
-
-same-length-2 : tie.Need-same-length-2
-same-length-2 c = search needs
 
 returns-2 : tie.Need-returns-2
 returns-2 c =
@@ -85,23 +49,11 @@ run c =
     let e = sym (c .before .before .before .width-of .ensures) ∙ c .before .w .given .1 in
     run-of (X d) (a .k) _ (a .p) _ (a .until) (width-there (a .s) (now (a .widths)) (a .k) _ e .1) (start d .pre .5) (n .0) (n .2) (c .before .before .before .before .if1 .left)
 
-cast-width : tie.Need-cast-width
-cast-width c = search needs
-
-sub-at : tie.Need-sub-at
-sub-at c = let n = next (seen c) .2 in omega (arith, n)
-
-sub-at-2 : tie.Need-sub-at-2
-sub-at-2 c = let n = next (seen c) .2 in omega (arith, n)
-
 mul-at : tie.Need-mul-at
 mul-at c = let r = run c .room in omega (arith, r, start (seen c) .pre .0)
 
 add-at : tie.Need-add-at
 add-at c = let r = run c .room in omega (arith, r, start (seen c) .pre .0)
-
-sub-fill-deltas : tie.Need-sub-fill-deltas
-sub-fill-deltas c = search needs
 
 sub-fill-deltas-2 : tie.Need-sub-fill-deltas-2
 sub-fill-deltas-2 c = let n = next (seen (c .before)) in omega (arith, n)
@@ -120,9 +72,6 @@ fill-deltas-requires c κs =
     let m = r .room in
     (omega (arith, r .least, u), r .most, omega (arith, m, u), omega arith, r .fits)
 
-same-length-3 : tie.Need-same-length-3
-same-length-3 c = search needs
-
 returns-3 : tie.Need-returns-3
 returns-3 c =
     let k = c .before .before .before .before in
@@ -135,31 +84,9 @@ returns-3 c =
     c .before .before .fill-deltas .ensures ∙ rw b (segment-puts (X d) (a .k) (a .p) (d .put-base .result) (a .until) (a .from) (now (a .out)) (n .0) l _ (r .same))
 
 pub fill-segment-spec : {M : Type 1} → statement M
-fill-segment-spec =
-    tie.close
-    (tie.spec
-    mul-start
-    shared-slice-read-start
-    mul-base
-    shared-slice-read-base
-    mul-offset
-    shared-slice-read-offset
-    put-base-requires
-    same-length
-    returns
-    width-of-requires
-    enum-known-w
-    enum-told
-    same-length-2
-    returns-2
-    cast-width
-    sub-at
-    sub-at-2
-    mul-at
-    add-at
-    sub-fill-deltas
-    sub-fill-deltas-2
-    add-fill-deltas
-    fill-deltas-requires
-    same-length-3
-    returns-3)
+fill-segment-spec = tie.close (tie.spec
+    (λ c. search needs) (λ c. search needs) (λ c. search needs) (λ c. search needs) (λ c. search needs)
+    (λ c. search needs) (λ c κs. search needs) (λ c. search needs) returns (λ c κs. search needs) (λ c. search needs)
+    (λ c. search needs) (λ c. search needs) returns-2 (λ c. search needs)
+    (λ c. let n = next (seen c) .2 in omega (arith, n)) (λ c. let n = next (seen c) .2 in omega (arith, n)) mul-at
+    add-at (λ c. search needs) sub-fill-deltas-2 add-fill-deltas fill-deltas-requires (λ c. search needs) returns-3)

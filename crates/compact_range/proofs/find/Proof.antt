@@ -23,9 +23,6 @@ walks c =
 add-entry-or : tie.Need-add-entry-or
 add-entry-or c = omega (arith, walks c .1)
 
-entry-or-requires : tie.Need-entry-or-requires
-entry-or-requires c κs = search needs
-
 mul-if2 : tie.Need-mul-if2
 mul-if2 c = omega (arith, walks (c .before) .1)
 
@@ -34,9 +31,6 @@ shared-slice-read-if2 c = omega (arith, walks (c .before .before) .1)
 
 add-t17 : tie.Need-add-t17
 add-t17 c = omega (arith, walks (c .before .before .before) .1)
-
-least-requires : tie.Need-least-requires
-least-requires c κs = search needs
 
 returns : tie.Need-returns
 returns c =
@@ -56,22 +50,10 @@ returns c =
           (below-next starts (s .args .n) (s .args .k + 1) (s .args .limit) (n .entry-or .result) _ u (n .entry-or .ensures) r h);
     }
 
-bisect-right-until-requires : tie.Need-bisect-right-until-requires
-bisect-right-until-requires c κs = search needs
-
 returns-2 : tie.Need-returns-2
 returns-2 c = let f = c .bisect-right-until .ensures in record { after = f .after; within = f .within; stays = f .stays }
 
 pub find-spec : {M : Type 1} → statement M
-find-spec =
-    tie.close
-    (tie.spec
-    add-entry-or
-    entry-or-requires
-    mul-if2
-    shared-slice-read-if2
-    add-t17
-    least-requires
-    returns
-    bisect-right-until-requires
-    returns-2)
+find-spec = tie.close (tie.spec
+    add-entry-or (λ c κs. search needs) mul-if2 shared-slice-read-if2 add-t17 (λ c κs. search needs) returns
+    (λ c κs. search needs) returns-2)

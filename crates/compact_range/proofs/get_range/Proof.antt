@@ -1,11 +1,11 @@
 -- The range's tests are check_range's; then the room, what the deciding pass found, and what the writing pass put.
 use Prim.Native.Nat.{_≤_}
 use mathlib.Core.Bool.{true}
-use mathlib.Core.Path.{_≡_, sym, _∙_}
+use mathlib.Core.Path.{_≡_}
 use native.Mathlib.Omega.{arith}
 use denote.Ref.{now}
+use Rattle.laws.proofs.Tests.{passed, failed}
 use borrow.Author.Needs.{needs}
-use borrow.Author.Tests.{not-true, not-false}
 use Rattle.rules.specs.Record.{Index, index, lengthOf, countsHold}
 use Rattle.laws.proofs.Counts.{counts-facts}
 use Rattle.tables.proofs.Range.{range-facts}
@@ -13,17 +13,8 @@ use Rattle.compact_range.proofs.Whole.{range-refused, range-room, range
 use Rattle.compact_range.proofs.get_range.Statement.{statement}
 use Rattle.compact_range.proofs.get_range.Tie as tie
 
-check-range-requires : tie.Need-check-range-requires
-check-range-requires c κs = search needs
-
-enum-known-e : tie.Need-enum-known-e
-enum-known-e c = search needs
-
 returns : tie.Need-returns
 returns c = range-refused _ _ _ _ (c .before .before .before .check-range .ensures) (c .before .e .given .1)
-
-enum-told : tie.Need-enum-told
-enum-told c = search needs
 
 abbrev start : tie.After-enum-told → tie.Start
 start c = c .before .before .before .before .before .before .before .before .before
@@ -53,42 +44,25 @@ range-reads-requires c κs = let o = ok (c .before .before) in (counts-facts _ (
 returns-3 : tie.Need-returns-3
 returns-3 c =
     let e = c .before .before .before in
-    range-damaged _ _ _ _ (ok (e .before)) (e .if1 .left) (sym (c .before .range-reads .ensures) ∙ not-true _ (c .if2 .taken))
+    range-damaged _ _ _ _ (ok (e .before)) (e .if1 .left) (failed (c .before .range-reads .ensures) (c .if2 .taken))
 
 range-write-requires : tie.Need-range-write-requires
 range-write-requires c κs =
     let r = c .before .before .before in
     let e = r .before in
     let o = ok (e .before) in
-    (counts-facts _ (o .0), r .rises .ensures, o .2, o .1, e .if1 .left, sym (c .before .before .range-reads .ensures) ∙ not-false _ (c .before .if2 .left))
+    (counts-facts _ (o .0), r .rises .ensures, o .2, o .1, e .if1 .left, passed (c .before .before .range-reads .ensures) (c .before .if2 .left))
 
 sub-t15 : tie.Need-sub-t15
 sub-t15 c = omega (arith, ok (c .before .before .before .before .before .before .before .before) .2)
-
-same-length : tie.Need-same-length
-same-length c = search needs
 
 returns-4 : tie.Need-returns-4
 returns-4 c =
     let f = c .before .before .before .before in
     let e = f .before .before .before in
-    range-values _ _ _ _ (ok (e .before)) (e .if1 .left) (sym (f .before .range-reads .ensures) ∙ not-false _ (f .if2 .left)) _ (c .before .before .range-write .ensures)
+    range-values _ _ _ _ (ok (e .before)) (e .if1 .left) (passed (f .before .range-reads .ensures) (f .if2 .left)) _ (c .before .before .range-write .ensures)
 
 pub get-range-spec : {M : Type 1} → statement M
-get-range-spec =
-    tie.close
-    (tie.spec
-    check-range-requires
-    enum-known-e
-    returns
-    enum-told
-    sub-if1
-    returns-2
-    sub-rises
-    rises-requires
-    range-reads-requires
-    returns-3
-    range-write-requires
-    sub-t15
-    same-length
-    returns-4)
+get-range-spec = tie.close (tie.spec
+    (λ c κs. search needs) (λ c. search needs) returns (λ c. search needs) sub-if1 returns-2 sub-rises rises-requires
+    range-reads-requires returns-3 range-write-requires sub-t15 (λ c. search needs) returns-4)

@@ -4,18 +4,6 @@ use borrow.Author.Needs.{needs}
 use Rattle.compact_range.proofs.put_base.Statement.{statement}
 use Rattle.compact_range.proofs.put_base.Tie as tie
 
-mul-out : tie.Need-mul-out
-mul-out c = search needs
-
-slice-write-out : tie.Need-slice-write-out
-slice-write-out c = search needs
-
-add-result : tie.Need-add-result
-add-result c = search needs
-
-same-length : tie.Need-same-length
-same-length c = search needs
-
 returns : tie.Need-returns
 returns c = record { next = rw (eq-eqb _ _ (c .if1 .taken)); put = rw (eq-eqb _ _ (c .if1 .taken)) }
 
@@ -23,4 +11,5 @@ returns-2 : tie.Need-returns-2
 returns-2 c = record { next = rw (ne-eqb _ _ (c .if1 .left)); put = rw (ne-eqb _ _ (c .if1 .left)) }
 
 pub put-base-spec : {M : Type 1} → statement M
-put-base-spec = tie.close (tie.spec mul-out slice-write-out add-result same-length returns returns-2)
+put-base-spec = tie.close (tie.spec
+    (λ c. search needs) (λ c. search needs) (λ c. search needs) (λ c. search needs) returns returns-2)

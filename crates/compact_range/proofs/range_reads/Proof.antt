@@ -11,7 +11,6 @@ use Rattle.rules.specs.Record.{Index, index}
 use Rattle.rules.specs.Reading.{getRule}
 use Rattle.rules.specs.Refusals.{answerOf}
 use Rattle.laws.specs.Orders.{ordersOf}
-use Rattle.laws.proofs.Counts.{facts-counts}
 use Rattle.compact_range.specs.Values.{isValue, Values}
 use Rattle.compact_range.proofs.Deciding.{found-in, get-none, get-here, values-on, values-more, reads-good, reads-bad}
 use Rattle.compact_range.proofs.range_reads.Statement.{statement}
@@ -89,7 +88,7 @@ segments-again c =
     (omega arith, omega arith, c .before .deltas .inv .2)
 
 read-in-requires : tie.Need-read-in-requires Inv-deltas μ-deltas Inv-segments μ-segments
-read-in-requires c κs = (facts-counts _ (counts (c .before .before .before .before .before .before)), segment (c .before .before .before) .0)
+read-in-requires c κs = (counts (c .before .before .before .before .before .before), segment (c .before .before .before) .0)
 
 -- what the read says of the rule
 abbrev seen : tie.After-read-in Inv-deltas μ-deltas Inv-segments μ-segments → At
@@ -104,18 +103,6 @@ read-as c =
     let h = c .before .before .before .sure-until .ensures .from in
     ap isValue (get-here (X d) _ (d .segments .p) _ (counts d) (omega arith) (c .before .before .before .before .if2 .left) (f .stays)
     (c .before .before .deltas .p) (omega arith) (c .before .deltas-test .left) ∙ sym (c .read-in .ensures))
-
-enum-told : tie.Need-enum-told Inv-deltas μ-deltas Inv-segments μ-segments
-enum-told c = search needs
-
-enum-told-2 : tie.Need-enum-told-2 Inv-deltas μ-deltas Inv-segments μ-segments
-enum-told-2 c = search needs
-
-add-p : tie.Need-add-p Inv-deltas μ-deltas Inv-segments μ-segments
-add-p c = omega arith
-
-deltas-less : tie.Need-deltas-less Inv-deltas μ-deltas Inv-segments μ-segments
-deltas-less c = omega arith
 
 deltas-again : tie.Need-deltas-again Inv-deltas μ-deltas Inv-segments μ-segments
 deltas-again c =
@@ -151,26 +138,7 @@ returns-3 c =
     (read-as r ∙ ap (λ (g : Got). isValue (answerOf g)) (c .enum-told2 .given .1)))
 
 pub range-reads-spec : {M : Type 1} → statement M
-range-reads-spec =
-    tie.close
-    (tie.spec
-    Inv-deltas
-    μ-deltas
-    Inv-segments
-    μ-segments
-    segments-holds
-    find-requires
-    sub-k
-    sure-until-requires
-    deltas-holds
-    segments-less
-    segments-again
-    read-in-requires
-    enum-told
-    enum-told-2
-    add-p
-    deltas-less
-    deltas-again
-    returns
-    returns-2
-    returns-3)
+range-reads-spec = tie.close (tie.spec
+    Inv-deltas μ-deltas Inv-segments μ-segments segments-holds find-requires sub-k sure-until-requires deltas-holds
+    segments-less segments-again read-in-requires (λ c. search needs) (λ c. search needs) (λ c. omega arith)
+    (λ c. omega arith) deltas-again returns returns-2 returns-3)

@@ -67,9 +67,6 @@ segment c =
 sub-fill-segment : tie.Need-sub-fill-segment Inv-segments μ-segments
 sub-fill-segment c = omega (arith, some c)
 
-sub-fill-segment-2 : tie.Need-sub-fill-segment-2 Inv-segments μ-segments
-sub-fill-segment-2 c = omega arith
-
 fill-segment-requires : tie.Need-fill-segment-requires Inv-segments μ-segments
 fill-segment-requires c κs =
     let k = c .before in
@@ -122,17 +119,6 @@ returns c =
     d .segments .inv .2 ∙ ap (λ (p : ℕ). puts (gets (X d) (a .a)) 0 (p - a .a) (now (a .out))) e
 
 pub range-write-spec : {M : Type 1} → statement M
-range-write-spec =
-    tie.close
-    (tie.spec
-    Inv-segments
-    μ-segments
-    segments-holds
-    find-requires
-    sub-fill-segment
-    sub-fill-segment-2
-    fill-segment-requires
-    segments-less
-    segments-again
-    same-length
-    returns)
+range-write-spec = tie.close (tie.spec
+    Inv-segments μ-segments segments-holds find-requires sub-fill-segment (λ c. omega arith) fill-segment-requires
+    segments-less segments-again same-length returns)

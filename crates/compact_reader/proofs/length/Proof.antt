@@ -5,9 +5,6 @@ use borrow.Author.Needs.{needs}
 use Rattle.compact_reader.proofs.length.Statement.{statement}
 use Rattle.compact_reader.proofs.length.Tie as tie
 
-counts-hold-requires : tie.Need-counts-hold-requires
-counts-hold-requires c κs = search needs
-
 returns : tie.Need-returns
 unfolding lengthRule
 returns c = rw (sym (c .before .counts-hold .ensures) ∙ c .if1 .taken, lengthRule)
@@ -17,4 +14,5 @@ unfolding lengthRule
 returns-2 c = rw (sym (c .before .counts-hold .ensures) ∙ c .if1 .left, lengthRule)
 
 pub length-spec : {M : Type 1} → statement M
-length-spec = tie.close (tie.spec counts-hold-requires returns returns-2)
+length-spec = tie.close (tie.spec
+    (λ c κs. search needs) returns returns-2)

@@ -21,21 +21,6 @@ returns-2 c =
     let a = c .before .before .before .before .before .before .before .args in
     rw (lt-ltb (a .s .length) (a .p + 2) (omega arith), targetEnd)
 
-add-get : tie.Need-add-get
-add-get c = search needs
-
-get-requires : tie.Need-get-requires
-get-requires c κs = search needs
-
-enum-known-next : tie.Need-enum-known-next
-enum-known-next c = search needs
-
-least-requires : tie.Need-least-requires
-least-requires c κs = search needs
-
-enum-known-e : tie.Need-enum-known-e
-enum-known-e c = search needs
-
 returns-3 : tie.Need-returns-3
 unfolding targetEnd
 returns-3 c =
@@ -49,15 +34,6 @@ returns-4 c =
     rw (le-ltb (a .s .length) (a .p + 2) (omega arith), sym (c .before .before .before .get .ensures) ∙ ap answerOf (c .before .e .given .1), targetEnd)
 
 pub target-end-spec : {M : Type 1} → statement M
-target-end-spec =
-    tie.close
-    (tie.spec
-    returns
-    returns-2
-    add-get
-    get-requires
-    enum-known-next
-    least-requires
-    enum-known-e
-    returns-3
-    returns-4)
+target-end-spec = tie.close (tie.spec
+    returns returns-2 (λ c. search needs) (λ c κs. search needs) (λ c. search needs) (λ c κs. search needs)
+    (λ c. search needs) returns-3 returns-4)

@@ -16,12 +16,10 @@ returns-2 : tie.Need-returns-2
 unfolding openRule
 returns-2 c = sym (left _ _ _ (λ f. omega arith))
 
-fresh-requires : tie.Need-fresh-requires
-fresh-requires c κs = search needs
-
 returns-3 : tie.Need-returns-3
 unfolding openRule
 returns-3 c = ap value (c .fresh .ensures) ∙ sym (taken _ _ _ (omega arith))
 
 pub compact-index-spec : {M : Type 1} → statement M
-compact-index-spec = tie.close (tie.spec returns returns-2 fresh-requires returns-3)
+compact-index-spec = tie.close (tie.spec
+    returns returns-2 (λ c κs. search needs) returns-3)

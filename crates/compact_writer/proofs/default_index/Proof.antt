@@ -3,11 +3,9 @@ use borrow.Author.Needs.{needs}
 use Rattle.compact_writer.proofs.default_index.Statement.{statement}
 use Rattle.compact_writer.proofs.default_index.Tie as tie
 
-fresh-requires : tie.Need-fresh-requires
-fresh-requires c κs = search needs
-
 returns : tie.Need-returns
 returns c = c .fresh .ensures
 
 pub default-index-spec : {M : Type 1} → statement M
-default-index-spec = tie.close (tie.spec fresh-requires returns)
+default-index-spec = tie.close (tie.spec
+    (λ c κs. search needs) returns)

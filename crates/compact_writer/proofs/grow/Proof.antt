@@ -4,11 +4,9 @@ use borrow.Author.Needs.{needs}
 use Rattle.compact_writer.proofs.grow.Statement.{statement}
 use Rattle.compact_writer.proofs.grow.Tie as tie
 
-add-t5 : tie.Need-add-t5
-add-t5 c = search needs
-
 returns : tie.Need-returns
 returns c = refl
 
 pub grow-spec : {M : Type 1} → statement M
-grow-spec = tie.close (tie.spec add-t5 returns)
+grow-spec = tie.close (tie.spec
+    (λ c. search needs) returns)

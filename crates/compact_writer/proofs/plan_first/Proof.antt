@@ -17,9 +17,6 @@ returns-2 : tie.Need-returns-2
 unfolding firstPlan
 returns-2 c = sym (taken _ _ _ (omega arith) ∙ left _ _ _ (λ f. omega arith))
 
-need-of-requires : tie.Need-need-of-requires
-need-of-requires c κs = search needs
-
 data-room-requires : tie.Need-data-room-requires
 data-room-requires c κs =
     let a = c .before .before .before .before .before .args in
@@ -39,5 +36,5 @@ returns-4 c =
     sym (taken _ _ _ (omega arith) ∙ taken _ _ _ (omega arith) ∙ left _ _ _ (λ f. n (rw (c .before .before .need-of .ensures) f)))
 
 pub plan-first-spec : {M : Type 1} → statement M
-plan-first-spec =
-    tie.close (tie.spec returns returns-2 need-of-requires data-room-requires returns-3 returns-4)
+plan-first-spec = tie.close (tie.spec
+    returns returns-2 (λ c κs. search needs) data-room-requires returns-3 returns-4)

@@ -19,18 +19,9 @@ returns-3 : tie.Need-returns-3
 unfolding nextPlan
 returns-3 c = sym (taken _ _ _ (omega arith) ∙ left _ _ _ (λ f. omega arith))
 
-need-of-requires : tie.Need-need-of-requires
-need-of-requires c κs = search needs
-
-plan-segment-requires : tie.Need-plan-segment-requires
-plan-segment-requires c κs = search needs
-
 returns-4 : tie.Need-returns-4
 unfolding nextPlan
 returns-4 c = c .plan-segment .ensures ∙ sym (taken _ _ _ (omega arith) ∙ taken _ _ _ (omega arith) ∙ left _ _ _ (λ f. omega arith))
-
-data-room-requires : tie.Need-data-room-requires
-data-room-requires c κs = search needs
 
 returns-5 : tie.Need-returns-5
 unfolding nextPlan
@@ -45,15 +36,6 @@ returns-6 c =
     sym (taken _ _ _ (omega arith) ∙ taken _ _ _ (omega arith) ∙ taken _ _ _ (omega arith) ∙ left _ _ _ n)
 
 pub plan-next-spec : {M : Type 1} → statement M
-plan-next-spec =
-    tie.close
-    (tie.spec
-    returns
-    returns-2
-    returns-3
-    need-of-requires
-    plan-segment-requires
-    returns-4
-    data-room-requires
-    returns-5
-    returns-6)
+plan-next-spec = tie.close (tie.spec
+    returns returns-2 returns-3 (λ c κs. search needs) (λ c κs. search needs) returns-4 (λ c κs. search needs)
+    returns-5 returns-6)

@@ -44,41 +44,10 @@ returns-4 c =
     push-at _ _ _ _ _ (c .before .before .before .before .before .before .before .plan-push .ensures) (c .before .before .before .before .before .plan3 .given .1) (same (e .0) refl refl refl refl (e .1))
 
 pub push-spec : {M : Type 1} → statement M
-push-spec =
-    tie.close
-    (tie.spec
-    (λ c κs. search needs)
-    (λ c. search needs)
-    (λ c. search needs)
-    start-segment-requires
-    (λ c. search needs)
-    cast-widths
-    slice-write-widths
-    add-push-delta
-    push-delta-requires
-    (λ c. search needs)
-    push-delta-requires-2
-    (λ c. search needs)
-    (λ c. search needs)
-    (λ c. search needs)
-    (λ c. search needs)
-    (λ c. search needs)
-    returns
-    (λ c. search needs)
-    (λ c. search needs)
-    (λ c. search needs)
-    (λ c. search needs)
-    (λ c. search needs)
-    returns-2
-    (λ c. search needs)
-    (λ c. search needs)
-    (λ c. search needs)
-    (λ c. search needs)
-    (λ c. search needs)
-    returns-3
-    (λ c. search needs)
-    (λ c. search needs)
-    (λ c. search needs)
-    (λ c. search needs)
-    (λ c. search needs)
-    returns-4)
+push-spec = tie.close (tie.spec
+    (λ c κs. search needs) (λ c. search needs) (λ c. search needs) start-segment-requires (λ c. search needs)
+    cast-widths slice-write-widths add-push-delta push-delta-requires (λ c. search needs) push-delta-requires-2
+    (λ c. search needs) (λ c. search needs) (λ c. search needs) (λ c. search needs) (λ c. search needs) returns
+    (λ c. search needs) (λ c. search needs) (λ c. search needs) (λ c. search needs) (λ c. search needs) returns-2
+    (λ c. search needs) (λ c. search needs) (λ c. search needs) (λ c. search needs) (λ c. search needs) returns-3
+    (λ c. search needs) (λ c. search needs) (λ c. search needs) (λ c. search needs) (λ c. search needs) returns-4)

@@ -10,27 +10,6 @@ use borrow.Author.Needs.{needs}
 use Rattle.compact_writer.proofs.push_delta.Statement.{statement}
 use Rattle.compact_writer.proofs.push_delta.Tie as tie
 
-sub-store-delta : tie.Need-sub-store-delta
-sub-store-delta c = search needs
-
-part-store-delta-start : tie.Need-part-store-delta-start
-part-store-delta-start c = search needs
-
-part-store-delta-end : tie.Need-part-store-delta-end
-part-store-delta-end c = search needs
-
-store-delta-requires : tie.Need-store-delta-requires
-store-delta-requires c κs = search needs
-
-add-grow : tie.Need-add-grow
-add-grow c = search needs
-
-grow-requires : tie.Need-grow-requires
-grow-requires c κs = search needs
-
-same-length : tie.Need-same-length
-same-length c = search needs
-
 returns : tie.Need-returns
 returns c =
     let a = c .before .before .before .before .before .before .args in
@@ -38,14 +17,6 @@ returns c =
     (ap (λ t. Pushed.At t (a .s .length)) (c .grow .ensures), stored-from (a .s .used) vs (now (a .bytes)) _ (omega (arith, length-bytes (a .width) (a .delta))) (c .before .before .before .store-delta .ensures))
 
 pub push-delta-spec : {M : Type 1} → statement M
-push-delta-spec =
-    tie.close
-    (tie.spec
-    sub-store-delta
-    part-store-delta-start
-    part-store-delta-end
-    store-delta-requires
-    add-grow
-    grow-requires
-    same-length
-    returns)
+push-delta-spec = tie.close (tie.spec
+    (λ c. search needs) (λ c. search needs) (λ c. search needs) (λ c κs. search needs) (λ c. search needs)
+    (λ c κs. search needs) (λ c. search needs) returns)

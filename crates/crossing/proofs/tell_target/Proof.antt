@@ -3,15 +3,6 @@ use borrow.Author.Needs.{needs}
 use Rattle.crossing.proofs.tell_target.Statement.{statement}
 use Rattle.crossing.proofs.tell_target.Tie as tie
 
-enum-known-target : tie.Need-enum-known-target
-enum-known-target c = search needs
-
-enum-known-target-2 : tie.Need-enum-known-target-2
-enum-known-target-2 c = search needs
-
-number-of-requires : tie.Need-number-of-requires
-number-of-requires c κs = search needs
-
 returns : tie.Need-returns
 returns c = rw (c .before .target .given .1)
 
@@ -19,5 +10,5 @@ returns-2 : tie.Need-returns-2
 returns-2 c = rw (c .before .before .target2 .given .1, c .number-of .ensures)
 
 pub tell-target-spec : {M : Type 1} → statement M
-tell-target-spec =
-    tie.close (tie.spec enum-known-target enum-known-target-2 number-of-requires returns returns-2)
+tell-target-spec = tie.close (tie.spec
+    (λ c. search needs) (λ c. search needs) (λ c κs. search needs) returns returns-2)

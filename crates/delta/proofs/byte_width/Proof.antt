@@ -8,9 +8,6 @@ use lib.Count.{leading-le, leadingZeros}
 use Rattle.delta.proofs.byte_width.Statement.{statement}
 use Rattle.delta.proofs.byte_width.Tie as tie
 
-returns : tie.Need-returns
-returns c = search needs
-
 -- the rule's second case, of a number that is not 0
 not-zero : (n : ℕ) → (n ≡ 0 → ⊥) → 8 - leadingZeros 64 n / 8 ≡ byteWidth n
 not-zero zero h = absurd (h refl)
@@ -26,4 +23,5 @@ returns-2 : tie.Need-returns-2
 returns-2 c = not-zero (c .before .args .value) (c .if1 .left)
 
 pub byte-width-spec : {M : Type 1} → statement M
-byte-width-spec = tie.close (tie.spec returns cast-result sub-result returns-2)
+byte-width-spec = tie.close (tie.spec
+    (λ c. search needs) cast-result sub-result returns-2)

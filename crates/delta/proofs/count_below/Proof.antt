@@ -28,29 +28,8 @@ room c =
     let w = l .inv .within in
     (delta-room (a .n) (a .width) (middle (l .low) (l .high)) (omega arith), le-mul-of-pos-right (a .n) (omega arith))
 
-add-mid : tie.Need-add-mid Inv-loop μ-loop
-add-mid c = omega (arith, room c)
-
-mul-delta-at : tie.Need-mul-delta-at Inv-loop μ-loop
-mul-delta-at c = omega (arith, room c)
-
-add-delta-at : tie.Need-add-delta-at Inv-loop μ-loop
-add-delta-at c = omega (arith, room c)
-
-delta-at-requires : tie.Need-delta-at-requires Inv-loop μ-loop
-delta-at-requires c κs = omega (arith, room c)
-
-add-low : tie.Need-add-low Inv-loop μ-loop
-add-low c = omega arith
-
-loop-less : tie.Need-loop-less Inv-loop μ-loop
-loop-less c = omega arith
-
 loop-again : tie.Need-loop-again Inv-loop μ-loop
 loop-again c = halfway-up (c .before .before .before .loop .inv) (omega arith) (rw (← c .before .delta-at .ensures) (lt-ltb _ _ (c .if2 .taken)))
-
-loop-less-2 : tie.Need-loop-less-2 Inv-loop μ-loop
-loop-less-2 c = omega arith
 
 loop-again-2 : tie.Need-loop-again-2 Inv-loop μ-loop
 loop-again-2 c = halfway-down (c .before .before .before .loop .inv) (omega arith) (rw (← c .before .delta-at .ensures) (le-ltb _ _ (c .if2 .left)))
@@ -59,19 +38,7 @@ returns : tie.Need-returns Inv-loop μ-loop
 returns c = halfway-done (c .before .loop .inv) (c .if1 .taken)
 
 pub count-below-spec : {M : Type 1} → statement M
-count-below-spec =
-    tie.close
-    (tie.spec
-    Inv-loop
-    μ-loop
-    loop-holds
-    add-mid
-    mul-delta-at
-    add-delta-at
-    delta-at-requires
-    add-low
-    loop-less
-    loop-again
-    loop-less-2
-    loop-again-2
+count-below-spec = tie.close (tie.spec
+    Inv-loop μ-loop loop-holds (λ c. omega (arith, room c)) (λ c. omega (arith, room c)) (λ c. omega (arith, room c))
+    (λ c κs. omega (arith, room c)) (λ c. omega arith) (λ c. omega arith) loop-again (λ c. omega arith) loop-again-2
     returns)

@@ -33,26 +33,14 @@ turn-fits c b h =
 byte : (c : tie.After-shared-slice-known Inv-loop μ-loop) → getD (now (c .before .before .before .args .bytes)) (c .before .before .before .args .at + (c .before .before .loop .i - 1)) 0 < 256
 byte c = omega (arith, c .shared-slice-known .given (c .before .before .before .args .at + (c .before .before .loop .i - 1)))
 
-sub-i : tie.Need-sub-i Inv-loop μ-loop
-sub-i c = omega arith
-
 mul-value : tie.Need-mul-value Inv-loop μ-loop
 mul-value c = omega (arith, turn-fits c 0 (omega arith))
-
-add-value : tie.Need-add-value Inv-loop μ-loop
-add-value c = omega arith
-
-shared-slice-read-value : tie.Need-shared-slice-read-value Inv-loop μ-loop
-shared-slice-read-value c = omega arith
 
 cast-value : tie.Need-cast-value Inv-loop μ-loop
 cast-value c = omega (arith, byte c)
 
 add-value-2 : tie.Need-add-value-2 Inv-loop μ-loop
 add-value-2 c = record { fits = turn-fits (c .before) _ (byte c) }
-
-loop-less : tie.Need-loop-less Inv-loop μ-loop
-loop-less c = omega arith
 
 loop-again : tie.Need-loop-again Inv-loop μ-loop
 loop-again c =
@@ -72,18 +60,6 @@ returns c =
     c .before .loop .inv .1 ∙ rw (e, e1, e2)
 
 pub load-spec : {M : Type 1} → statement M
-load-spec =
-    tie.close
-    (tie.spec
-    Inv-loop
-    μ-loop
-    loop-holds
-    sub-i
-    mul-value
-    add-value
-    shared-slice-read-value
-    cast-value
-    add-value-2
-    loop-less
-    loop-again
-    returns)
+load-spec = tie.close (tie.spec
+    Inv-loop μ-loop loop-holds (λ c. omega arith) mul-value (λ c. omega arith) (λ c. omega arith) cast-value
+    add-value-2 (λ c. omega arith) loop-again returns)

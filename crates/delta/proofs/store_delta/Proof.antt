@@ -22,18 +22,6 @@ abbrev μ-loop : tie.MeasureT-loop
 loop-holds : tie.Need-loop-holds Inv-loop μ-loop
 loop-holds c = (search needs, refl, rw sub-zero)
 
-cast-tail : tie.Need-cast-tail Inv-loop μ-loop
-cast-tail c = search needs
-
-slice-write-tail : tie.Need-slice-write-tail Inv-loop μ-loop
-slice-write-tail c = search needs
-
-add-i : tie.Need-add-i Inv-loop μ-loop
-add-i c = search needs
-
-loop-less : tie.Need-loop-less Inv-loop μ-loop
-loop-less c = search needs
-
 loop-again : tie.Need-loop-again Inv-loop μ-loop
 loop-again c =
     let a = c .before .before .args in
@@ -41,25 +29,12 @@ loop-again c =
     let i = l .i in
     (search needs, simp length-set (search needs), rw add-one (sym (store-step (l .tail) i (l .rest) (a .width - i) (a .width - suc i) (omega arith)) ∙ l .inv .2))
 
-same-length : tie.Need-same-length Inv-loop μ-loop
-same-length c = search needs
-
 returns : tie.Need-returns Inv-loop μ-loop
 returns c =
     let l = c .before .loop in
     store-done (l .tail) (l .i) (l .rest) (c .before .before .args .width - l .i) (omega arith) ∙ l .inv .2
 
 pub store-delta-spec : {M : Type 1} → statement M
-store-delta-spec =
-    tie.close
-    (tie.spec
-    Inv-loop
-    μ-loop
-    loop-holds
-    cast-tail
-    slice-write-tail
-    add-i
-    loop-less
-    loop-again
-    same-length
-    returns)
+store-delta-spec = tie.close (tie.spec
+    Inv-loop μ-loop loop-holds (λ c. search needs) (λ c. search needs) (λ c. search needs) (λ c. search needs)
+    loop-again (λ c. search needs) returns)

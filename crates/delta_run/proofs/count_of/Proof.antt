@@ -15,12 +15,10 @@ returns-2 : tie.Need-returns-2
 unfolding runCountRule
 returns-2 c = sym (left _ _ _ (λ f. omega arith))
 
-div-t8 : tie.Need-div-t8
-div-t8 c = search needs
-
 returns-3 : tie.Need-returns-3
 unfolding runCountRule
 returns-3 c = sym (taken _ _ _ (omega arith))
 
 pub count-of-spec : {M : Type 1} → statement M
-count-of-spec = tie.close (tie.spec returns returns-2 div-t8 returns-3)
+count-of-spec = tie.close (tie.spec
+    returns returns-2 (λ c. search needs) returns-3)

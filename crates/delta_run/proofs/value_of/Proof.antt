@@ -11,15 +11,6 @@ use borrow.Author.Needs.{needs}
 use Rattle.delta_run.proofs.value_of.Statement.{statement}
 use Rattle.delta_run.proofs.value_of.Tie as tie
 
-count-of-requires : tie.Need-count-of-requires
-count-of-requires c κs = search needs
-
-enum-known-counted : tie.Need-enum-known-counted
-enum-known-counted c = search needs
-
-enum-told : tie.Need-enum-told
-enum-told c = search needs
-
 returns : tie.Need-returns
 returns c = count-refused _ _ _ _ (c .before .before .count-of .ensures) (c .enum-told .given .1)
 
@@ -41,17 +32,11 @@ delta-at-requires c κs =
     let g = count-given _ _ (c .before .before .before .before .count-of .ensures) (c .before .before .counted .given .1) in
     omega (arith, room-fits (length (now (a .bytes))) (a .i) (a .width) (omega arith) (omega arith))
 
-sub-if2 : tie.Need-sub-if2
-sub-if2 c = search needs
-
 returns-3 : tie.Need-returns-3
 unfolding runValueRule
 returns-3 c =
     let g = count-given _ _ (c .before .before .before .before .before .before .count-of .ensures) (c .before .before .before .before .counted .given .1) in
     sym (taken _ _ _ (g .0) ∙ taken _ _ _ (omega arith) ∙ left _ _ _ (λ f. omega arith))
-
-add-t10 : tie.Need-add-t10
-add-t10 c = search needs
 
 returns-4 : tie.Need-returns-4
 unfolding runValueRule
@@ -60,17 +45,6 @@ returns-4 c =
     rw (c .before .delta-at .ensures) (sym (taken _ _ _ (g .0) ∙ taken _ _ _ (omega arith) ∙ taken _ _ _ (omega arith)))
 
 pub value-of-spec : {M : Type 1} → statement M
-value-of-spec =
-    tie.close
-    (tie.spec
-    count-of-requires
-    enum-known-counted
-    enum-told
-    returns
-    returns-2
-    mul-delta-at
-    delta-at-requires
-    sub-if2
-    returns-3
-    add-t10
-    returns-4)
+value-of-spec = tie.close (tie.spec
+    (λ c κs. search needs) (λ c. search needs) (λ c. search needs) returns returns-2 mul-delta-at delta-at-requires
+    (λ c. search needs) returns-3 (λ c. search needs) returns-4)

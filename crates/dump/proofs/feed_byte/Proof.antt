@@ -20,18 +20,6 @@ unfolding byteRule
 returns-3 c = rw (eq-eqb _ _ (c .before .before .before .before .before .before .before .before .before .before .before .before .before .before .before .before .before .before .before .before .if1 .left), le-ltb _ _ (c .before .before .before .before .before .before .before .before .before .before .before .before .before .before .before .before .before .if2 .left), c .pushed-on .ensures, sym (c .before .before .before .before .before .before .before .before .before .before .before .before .before .before .before .before .before .before .with-byte .ensures), byteRule) (pushed-at (c .before .before .before .before .before .before .before .before .before .before .before .push .result) _ _ _ _ _ _ (c .before .before .before .before .before .before .before .before .before .before .before .push .ensures))
 
 pub feed-byte-spec : {M : Type 1} → statement M
-feed-byte-spec =
-    tie.close
-    (tie.spec
-    returns
-    (λ c κs. search needs)
-    (λ c. search needs)
-    returns-2
-    (λ c κs. search needs)
-    (λ c κs. search needs)
-    (λ c. search needs)
-    (λ c. search needs)
-    (λ c. search needs)
-    (λ c. search needs)
-    (λ c. search needs)
-    returns-3)
+feed-byte-spec = tie.close (tie.spec
+    returns (λ c κs. search needs) (λ c. search needs) returns-2 (λ c κs. search needs) (λ c κs. search needs)
+    (λ c. search needs) (λ c. search needs) (λ c. search needs) (λ c. search needs) (λ c. search needs) returns-3)

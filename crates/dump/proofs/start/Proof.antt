@@ -3,11 +3,9 @@ use borrow.Author.Needs.{needs}
 use Rattle.dump.proofs.start.Statement.{statement}
 use Rattle.dump.proofs.start.Tie as tie
 
-default-index-requires : tie.Need-default-index-requires
-default-index-requires c κs = search needs
-
 returns : tie.Need-returns
 returns c = rw (c .default-index .ensures)
 
 pub start-spec : {M : Type 1} → statement M
-start-spec = tie.close (tie.spec default-index-requires returns)
+start-spec = tie.close (tie.spec
+    (λ c κs. search needs) returns)

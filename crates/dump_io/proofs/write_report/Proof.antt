@@ -16,17 +16,6 @@ slice-aggregate-write-all : tie.Need-slice-aggregate-write-all Inv-loop μ-loop
 slice-aggregate-write-all c = sym (length-take-le _ _ (c .before .line .ensures .0))
 
 pub write-report-spec : {M : Type 1} → statement M
-write-report-spec =
-    tie.close
-    (tie.spec
-    Inv-loop
-    μ-loop
-    (λ c. search needs)
-    (λ c κs. search needs)
-    (λ c. search needs)
-    slice-aggregate-write-all
-    (λ c κs. search needs)
-    (λ c. search needs)
-    (λ c. search needs)
-    (λ c. search needs)
-    (λ c. search needs))
+write-report-spec = tie.close (tie.spec
+    Inv-loop μ-loop (λ c. search needs) (λ c κs. search needs) (λ c. search needs) slice-aggregate-write-all
+    (λ c κs. search needs) (λ c. search needs) (λ c. search needs) (λ c. search needs) (λ c. search needs))

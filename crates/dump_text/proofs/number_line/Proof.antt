@@ -7,18 +7,6 @@ use borrow.Author.Needs.{needs}
 use Rattle.dump_text.proofs.number_line.Statement.{statement}
 use Rattle.dump_text.proofs.number_line.Tie as tie
 
-put-field-requires : tie.Need-put-field-requires
-put-field-requires c κs = search needs
-
-slice-aggregate-put : tie.Need-slice-aggregate-put
-slice-aggregate-put c = search needs
-
-put-requires : tie.Need-put-requires
-put-requires c κs = search needs
-
-same-length : tie.Need-same-length
-same-length c = search needs
-
 returns : tie.Need-returns
 returns c =
     let e = c .before .before .before .before .before .before .before .put-field .ensures in
@@ -26,11 +14,5 @@ returns c =
     (omega arith, g .1 ∙ ap (λ l. l ++ newline) (e .1))
 
 pub number-line-spec : {M : Type 1} → statement M
-number-line-spec =
-    tie.close
-    (tie.spec
-    put-field-requires
-    slice-aggregate-put
-    put-requires
-    same-length
-    returns)
+number-line-spec = tie.close (tie.spec
+    (λ c κs. search needs) (λ c. search needs) (λ c κs. search needs) (λ c. search needs) returns)

@@ -26,13 +26,6 @@ returns c =
     (omega arith, field-put (take (a .at) (now (a .out))) (now (a .label)) _ _ _ (a .n) (e .1) (d .1 .1 ∙ decimal-of _ _ most (d .1 .0)) (g .1))
 
 pub put-field-spec : {M : Type 1} → statement M
-put-field-spec =
-    tie.close
-    (tie.spec
-    (λ c κs. search needs)
-    (λ c κs. search needs)
-    (λ c. search needs)
-    (λ c. search needs)
-    put-requires-2
-    (λ c. search needs)
-    returns)
+put-field-spec = tie.close (tie.spec
+    (λ c κs. search needs) (λ c κs. search needs) (λ c. search needs) (λ c. search needs) put-requires-2
+    (λ c. search needs) returns)

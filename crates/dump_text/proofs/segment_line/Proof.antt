@@ -1,32 +1,10 @@
 -- The texts follow one another as in the rule, 137 bytes at most; each number is the table's entry.
 use mathlib.Core.Path.{_∙_}
 use native.Mathlib.Omega.{arith}
-use Rattle.laws.proofs.Counts.{counts-facts}
 use Rattle.dump_text.specs.Report.{segmentLine}
 use borrow.Author.Needs.{needs}
 use Rattle.dump_text.proofs.segment_line.Statement.{statement}
 use Rattle.dump_text.proofs.segment_line.Tie as tie
-
-mul-start : tie.Need-mul-start
-mul-start c = omega (arith, counts-facts _ (c .before .before .before .before .before .before .pre .0), c .before .before .before .before .before .before .pre .1)
-
-shared-slice-read-start : tie.Need-shared-slice-read-start
-shared-slice-read-start c = omega (arith, counts-facts _ (c .before .before .before .before .before .before .before .pre .0), c .before .before .before .before .before .before .before .pre .1)
-
-mul-base : tie.Need-mul-base
-mul-base c = omega (arith, counts-facts _ (c .before .before .before .before .before .before .before .pre .0), c .before .before .before .before .before .before .before .pre .1)
-
-shared-slice-read-base : tie.Need-shared-slice-read-base
-shared-slice-read-base c = omega (arith, counts-facts _ (c .before .before .before .before .before .before .before .before .pre .0), c .before .before .before .before .before .before .before .before .pre .1)
-
-mul-offset : tie.Need-mul-offset
-mul-offset c = omega (arith, counts-facts _ (c .before .before .before .before .before .before .before .before .pre .0), c .before .before .before .before .before .before .before .before .pre .1)
-
-shared-slice-read-offset : tie.Need-shared-slice-read-offset
-shared-slice-read-offset c = omega (arith, counts-facts _ (c .before .before .before .before .before .before .before .before .before .pre .0), c .before .before .before .before .before .before .before .before .before .pre .1)
-
-width-of-requires : tie.Need-width-of-requires
-width-of-requires c κs = omega (arith, counts-facts _ (c .before .before .before .before .before .before .before .before .before .before .before .before .before .before .before .before .before .before .before .before .before .before .before .before .before .before .before .before .before .before .pre .0))
 
 put-requires : tie.Need-put-requires
 put-requires c κs = omega (arith, c .before .before .before .before .before .before .before .before .before .before .before .before .before .before .before .before .before .before .before .before .before .before .before .before .put-field .ensures .0, c .before .before .before .before .before .before .before .before .before .before .before .before .before .before .before .before .before .before .before .put-field2 .ensures .0, c .before .before .before .before .before .before .before .before .before .before .before .before .before .before .put-field3 .ensures .0, c .before .before .before .before .before .before .before .before .before .put-field4 .ensures .0, c .before .before .before .before .put-width .ensures .0, c .before .before .before .before .before .before .before .before .before .before .before .before .before .before .before .before .before .before .before .before .before .before .before .before .before .before .before .before .before .before .before .before .before .before .before .before .pre .2)
@@ -43,26 +21,8 @@ returns c =
     (omega (arith, e .0, f .0, g .0, h .0, w .0, p .0, c .before .before .before .before .before .before .before .before .before .before .before .before .before .before .before .before .before .before .before .before .before .before .before .before .before .before .before .before .before .before .before .before .before .before .before .before .before .before .before .pre .2), p .1 ∙ rw (w .1, c .before .before .before .before .before .before .before .before .width-of .ensures, h .1, g .1, f .1, e .1, segmentLine))
 
 pub segment-line-spec : {M : Type 1} → statement M
-segment-line-spec =
-    tie.close
-    (tie.spec
-    mul-start
-    shared-slice-read-start
-    mul-base
-    shared-slice-read-base
-    mul-offset
-    shared-slice-read-offset
-    (λ c. search needs)
-    (λ c κs. search needs)
-    (λ c. search needs)
-    (λ c κs. search needs)
-    (λ c. search needs)
-    (λ c κs. search needs)
-    (λ c. search needs)
-    (λ c κs. search needs)
-    width-of-requires
-    (λ c κs. search needs)
-    (λ c. search needs)
-    put-requires
-    (λ c. search needs)
-    returns)
+segment-line-spec = tie.close (tie.spec
+    (λ c. search needs) (λ c. search needs) (λ c. search needs) (λ c. search needs) (λ c. search needs)
+    (λ c. search needs) (λ c. search needs) (λ c κs. search needs) (λ c. search needs) (λ c κs. search needs)
+    (λ c. search needs) (λ c κs. search needs) (λ c. search needs) (λ c κs. search needs) (λ c κs. search needs)
+    (λ c κs. search needs) (λ c. search needs) put-requires (λ c. search needs) returns)

@@ -27,32 +27,11 @@ abbrev μ-loop : tie.MeasureT-loop
 loop-holds : tie.Need-loop-holds Inv-loop μ-loop
 loop-holds c = (omega arith, omega arith, omega arith, omega arith, λ u l h. halfway-start _ _, refl)
 
-add-mid : tie.Need-add-mid Inv-loop μ-loop
-add-mid c = omega arith
-
-mul-entry : tie.Need-mul-entry Inv-loop μ-loop
-mul-entry c = omega arith
-
-shared-slice-read-entry : tie.Need-shared-slice-read-entry Inv-loop μ-loop
-shared-slice-read-entry c = omega arith
-
-add-low : tie.Need-add-low Inv-loop μ-loop
-add-low c = omega arith
-
-loop-less : tie.Need-loop-less Inv-loop μ-loop
-loop-less c = omega arith
-
 loop-again : tie.Need-loop-again Inv-loop μ-loop
 loop-again c =
     let i = c .before .before .before .loop .inv in
     let t = c .if2 .taken in
     (omega arith, omega arith, i .2, i .3, λ u l h. halfway-up (i .4 u l h) (omega arith) (le-leb _ _ (le-trans t l)), sym (turning-up _ _ _ _ _ (omega arith) t) ∙ i .5)
-
-least-requires : tie.Need-least-requires Inv-loop μ-loop
-least-requires c κs = search needs
-
-loop-less-2 : tie.Need-loop-less-2 Inv-loop μ-loop
-loop-less-2 c = omega arith
 
 loop-again-2 : tie.Need-loop-again-2 Inv-loop μ-loop
 loop-again-2 c =
@@ -67,19 +46,6 @@ returns c =
     record { after = i .2; within = i .3; least = sym (turning-done _ _ _ _ _ (c .if1 .taken)) ∙ i .5; stays = λ u l h. halfway-done (i .4 u l h) (c .if1 .taken) }
 
 pub bisect-right-until-spec : {M : Type 1} → statement M
-bisect-right-until-spec =
-    tie.close
-    (tie.spec
-    Inv-loop
-    μ-loop
-    loop-holds
-    add-mid
-    mul-entry
-    shared-slice-read-entry
-    add-low
-    loop-less
-    loop-again
-    least-requires
-    loop-less-2
-    loop-again-2
-    returns)
+bisect-right-until-spec = tie.close (tie.spec
+    Inv-loop μ-loop loop-holds (λ c. omega arith) (λ c. omega arith) (λ c. omega arith) (λ c. omega arith)
+    (λ c. omega arith) loop-again (λ c κs. search needs) (λ c. omega arith) loop-again-2 returns)

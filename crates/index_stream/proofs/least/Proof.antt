@@ -3,11 +3,6 @@ use native.Mathlib.Omega.{arith}
 use Rattle.index_stream.proofs.least.Statement.{statement}
 use Rattle.index_stream.proofs.least.Tie as tie
 
-returns : tie.Need-returns
-returns c = omega arith
-
-returns-2 : tie.Need-returns-2
-returns-2 c = omega arith
-
 pub least-spec : {M : Type 1} → statement M
-least-spec = tie.close (tie.spec returns returns-2)
+least-spec = tie.close (tie.spec
+    (λ c. omega arith) (λ c. omega arith))

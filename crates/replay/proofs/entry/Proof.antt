@@ -18,14 +18,6 @@ unfolding entryRule
 returns-3 c = rw (lt-ltb _ _ (c .before .before .before .if1 .left), lt-ltb _ _ (c .before .before .if2 .left), c .number .ensures, entryRule)
 
 pub entry-spec : {M : Type 1} → statement M
-entry-spec =
-    tie.close
-    (tie.spec
-    (λ c κs. search needs)
-    returns
-    (λ c κs. search needs)
-    returns-2
-    (λ c. search needs)
-    (λ c. search needs)
-    (λ c κs. search needs)
-    returns-3)
+entry-spec = tie.close (tie.spec
+    (λ c κs. search needs) returns (λ c κs. search needs) returns-2 (λ c. search needs) (λ c. search needs)
+    (λ c κs. search needs) returns-3)

@@ -7,4 +7,5 @@ returns : tie.Need-returns
 returns c = rw (c .number-of .ensures)
 
 pub refusal-spec : {M : Type 1} → statement M
-refusal-spec = tie.close (tie.spec (λ c κs. search needs) returns)
+refusal-spec = tie.close (tie.spec
+    (λ c κs. search needs) returns)

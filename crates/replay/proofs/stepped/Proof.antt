@@ -13,15 +13,6 @@ returns-3 : tie.Need-returns-3
 returns-3 c = rw (c .refusal .ensures, c .before .before .step2 .given .1)
 
 pub stepped-spec : {M : Type 1} → statement M
-stepped-spec =
-    tie.close
-    (tie.spec
-    (λ c. search needs)
-    (λ c κs. search needs)
-    (λ c. search needs)
-    (λ c κs. search needs)
-    (λ c. search needs)
-    (λ c κs. search needs)
-    returns
-    returns-2
-    returns-3)
+stepped-spec = tie.close (tie.spec
+    (λ c. search needs) (λ c κs. search needs) (λ c. search needs) (λ c κs. search needs) (λ c. search needs)
+    (λ c κs. search needs) returns returns-2 returns-3)

@@ -10,6 +10,5 @@ returns-2 : tie.Need-returns-2
 returns-2 c = rw (c .refusal .ensures, c .before .before .walk2 .given .1)
 
 pub walked-spec : {M : Type 1} → statement M
-walked-spec =
-    tie.close
-    (tie.spec (λ c. search needs) (λ c κs. search needs) (λ c. search needs) (λ c κs. search needs) returns returns-2)
+walked-spec = tie.close (tie.spec
+    (λ c. search needs) (λ c κs. search needs) (λ c. search needs) (λ c κs. search needs) returns returns-2)

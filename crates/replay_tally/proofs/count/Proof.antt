@@ -14,13 +14,6 @@ unfolding counted
 returns-2 c = rw (sym (c .before .before .before .same .ensures) ∙ c .before .before .if1 .left, c .first-of .ensures, c .before .one-more2 .ensures, c .before .before .before .before .before .unknown-after .ensures, c .before .before .before .before .before .before .one-more .ensures, counted)
 
 pub count-spec : {M : Type 1} → statement M
-count-spec =
-    tie.close
-    (tie.spec
-    (λ c κs. search needs)
-    (λ c κs. search needs)
-    (λ c κs. search needs)
-    returns
-    (λ c κs. search needs)
-    (λ c κs. search needs)
-    returns-2)
+count-spec = tie.close (tie.spec
+    (λ c κs. search needs) (λ c κs. search needs) (λ c κs. search needs) returns (λ c κs. search needs)
+    (λ c κs. search needs) returns-2)

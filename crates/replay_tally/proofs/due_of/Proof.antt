@@ -7,4 +7,5 @@ returns : tie.Need-returns
 returns c = rw (c .before .before .word .ensures, c .before .word2 .ensures, c .word3 .ensures)
 
 pub due-of-spec : {M : Type 1} → statement M
-due-of-spec = tie.close (tie.spec (λ c κs. search needs) (λ c κs. search needs) (λ c κs. search needs) returns)
+due-of-spec = tie.close (tie.spec
+    (λ c κs. search needs) (λ c κs. search needs) (λ c κs. search needs) returns)

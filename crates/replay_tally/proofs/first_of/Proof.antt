@@ -13,4 +13,5 @@ unfolding firstOf
 returns-2 c = rw (ne-eqb _ _ (c .if1 .left), firstOf)
 
 pub first-of-spec : {M : Type 1} → statement M
-first-of-spec = tie.close (tie.spec returns returns-2)
+first-of-spec = tie.close (tie.spec
+    returns returns-2)

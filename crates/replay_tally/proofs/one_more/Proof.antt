@@ -14,4 +14,5 @@ unfolding oneMore
 returns-2 c = rw (le-ltb _ _ (c .if1 .left), oneMore)
 
 pub one-more-spec : {M : Type 1} → statement M
-one-more-spec = tie.close (tie.spec (λ c. search needs) returns returns-2)
+one-more-spec = tie.close (tie.spec
+    (λ c. search needs) returns returns-2)

@@ -23,4 +23,5 @@ unfolding sameReply
 returns-4 c = sym (taken _ _ _ (omega arith))
 
 pub same-spec : {M : Type 1} → statement M
-same-spec = tie.close (tie.spec returns returns-2 returns-3 returns-4)
+same-spec = tie.close (tie.spec
+    returns returns-2 returns-3 returns-4)

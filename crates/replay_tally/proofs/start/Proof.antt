@@ -7,4 +7,5 @@ returns : tie.Need-returns
 returns c = rw (c .default-index .ensures)
 
 pub start-spec : {M : Type 1} → statement M
-start-spec = tie.close (tie.spec (λ c κs. search needs) returns)
+start-spec = tie.close (tie.spec
+    (λ c κs. search needs) returns)

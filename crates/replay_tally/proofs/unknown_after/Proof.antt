@@ -14,4 +14,5 @@ unfolding unknownAfter
 returns-2 c = rw (ne-eqb _ _ (c .if1 .left), unknownAfter)
 
 pub unknown-after-spec : {M : Type 1} → statement M
-unknown-after-spec = tie.close (tie.spec (λ c κs. search needs) returns returns-2)
+unknown-after-spec = tie.close (tie.spec
+    (λ c κs. search needs) returns returns-2)

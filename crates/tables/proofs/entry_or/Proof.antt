@@ -4,12 +4,6 @@ use borrow.Author.Needs.{needs}
 use Rattle.tables.proofs.entry_or.Statement.{statement}
 use Rattle.tables.proofs.entry_or.Tie as tie
 
-mul-result : tie.Need-mul-result
-mul-result c = search needs
-
-shared-slice-read-result : tie.Need-shared-slice-read-result
-shared-slice-read-result c = search needs
-
 returns : tie.Need-returns
 returns c = rw (lt-ltb _ _ (c .before .if1 .taken))
 
@@ -17,4 +11,5 @@ returns-2 : tie.Need-returns-2
 returns-2 c = rw (le-ltb _ _ (c .if1 .left))
 
 pub entry-or-spec : {M : Type 1} → statement M
-entry-or-spec = tie.close (tie.spec mul-result shared-slice-read-result returns returns-2)
+entry-or-spec = tie.close (tie.spec
+    (λ c. search needs) (λ c. search needs) returns returns-2)

@@ -7,18 +7,6 @@ use Rattle.laws.proofs.Tests.{same-test, taken, left, facts-of}
 use Rattle.tables.proofs.room_holds.Statement.{statement}
 use Rattle.tables.proofs.room_holds.Tie as tie
 
-returns : tie.Need-returns
-returns c = sym (left _ _ _ (λ f. omega arith))
-
-returns-2 : tie.Need-returns-2
-returns-2 c = sym (left _ _ _ (λ f. omega arith))
-
-returns-3 : tie.Need-returns-3
-returns-3 c = sym (left _ _ _ (λ f. omega arith))
-
-returns-4 : tie.Need-returns-4
-returns-4 c = sym (left _ _ _ (λ f. omega arith))
-
 returns-5 : tie.Need-returns-5
 returns-5 c =
     let a = c .before .before .before .before .before .before .args in
@@ -27,4 +15,6 @@ returns-5 c =
     (λ t. let f = facts-of _ t in le-leb (a .s .used) (length (a .bytes .now)) (omega arith))
 
 pub room-holds-spec : {M : Type 1} → statement M
-room-holds-spec = tie.close (tie.spec returns returns-2 returns-3 returns-4 returns-5)
+room-holds-spec = tie.close (tie.spec
+    (λ c. sym (left _ _ _ (λ f. omega arith))) (λ c. sym (left _ _ _ (λ f. omega arith)))
+    (λ c. sym (left _ _ _ (λ f. omega arith))) (λ c. sym (left _ _ _ (λ f. omega arith))) returns-5)

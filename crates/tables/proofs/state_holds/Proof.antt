@@ -15,15 +15,6 @@ use Rattle.tables.proofs.state_holds.Tie as tie
 returns : tie.Need-returns
 returns c = sym (left _ _ _ (λ f. omega arith))
 
-returns-2 : tie.Need-returns-2
-returns-2 c = sym (left _ _ _ (λ f. omega arith))
-
-returns-3 : tie.Need-returns-3
-returns-3 c = sym (left _ _ _ (λ f. omega arith))
-
-returns-4 : tie.Need-returns-4
-returns-4 c = sym (left _ _ _ (λ f. omega arith))
-
 returns-5 : tie.Need-returns-5
 returns-5 c =
     let s = c .before .before .before .before .before .args .s in
@@ -36,12 +27,6 @@ returns-5 c =
     (λ t.
     let o = state-orders s (facts-of (stateTests s) t) in
     rw (eq-eqb (s .length) 0 (omega arith), eq-eqb (s .widths) 0 (omega arith), eq-eqb (s .used) 0 (omega arith)))
-
-sub-result : tie.Need-sub-result
-sub-result c = search needs
-
-add-result : tie.Need-add-result
-add-result c = search needs
 
 returns-6 : tie.Need-returns-6
 returns-6 c =
@@ -59,6 +44,6 @@ returns-6 c =
     rw (le-leb (s .segments - 1) (s .widths) (omega arith), le-leb (s .widths) (s .segments) (omega arith), le-leb (s .segments) (s .length) (omega arith), le-leb (s .length) (s .segments + s .used) (omega arith)))
 
 pub state-holds-spec : {M : Type 1} → statement M
-state-holds-spec =
-    tie.close
-    (tie.spec returns returns-2 returns-3 returns-4 returns-5 sub-result add-result returns-6)
+state-holds-spec = tie.close (tie.spec
+    returns (λ c. sym (left _ _ _ (λ f. omega arith))) (λ c. sym (left _ _ _ (λ f. omega arith)))
+    (λ c. sym (left _ _ _ (λ f. omega arith))) returns-5 (λ c. search needs) (λ c. search needs) returns-6)

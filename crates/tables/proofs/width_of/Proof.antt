@@ -5,9 +5,6 @@ use borrow.Author.Needs.{needs}
 use Rattle.tables.proofs.width_of.Statement.{statement}
 use Rattle.tables.proofs.width_of.Tie as tie
 
-shared-slice-read-t7 : tie.Need-shared-slice-read-t7
-shared-slice-read-t7 c = search needs
-
 returns : tie.Need-returns
 unfolding widthAt
 returns c = simp (lt-ltb _ _ (c .before .if1 .taken))
@@ -17,4 +14,5 @@ unfolding widthAt
 returns-2 c = simp (le-ltb _ _ (c .if1 .left))
 
 pub width-of-spec : {M : Type 1} → statement M
-width-of-spec = tie.close (tie.spec shared-slice-read-t7 returns returns-2)
+width-of-spec = tie.close (tie.spec
+    (λ c. search needs) returns returns-2)
