@@ -75,6 +75,14 @@ tableRule x t k =
     (when (eqb t 4) (entryRule (x .bytes) (usedOf x) k)
     unknownReply))))
 
+-- a search of the index, or a look at one entry of its tables, by its kind
+unfoldable pub findRule : Index → Call → Reply
+findRule x k =
+    when (eqb (k .kind) 11) (numberReply (bisectRule x (k .a)))
+    (when (eqb (k .kind) 12) (numberReply (bisectRangeRule x (k .a) (k .b) (k .c)))
+    (when (eqb (k .kind) 13) (tableRule x (k .a) (k .b))
+    unknownReply))
+
 -- a read of the index alone, by its kind
 unfoldable pub replyRule : Index → Call → Reply
 replyRule x k =
@@ -82,10 +90,7 @@ replyRule x k =
     (when (eqb (k .kind) 4) (numberReply (sizeRule x))
     (when (eqb (k .kind) 5) (numberReply (getRule x (k .a)))
     (when (eqb (k .kind) 10) (spanReply (targetRule x (k .a) (k .b)))
-    (when (eqb (k .kind) 11) (numberReply (bisectRule x (k .a)))
-    (when (eqb (k .kind) 12) (numberReply (bisectRangeRule x (k .a) (k .b) (k .c)))
-    (when (eqb (k .kind) 13) (tableRule x (k .a) (k .b))
-    unknownReply))))))
+    (findRule x k))))
 
 -- a call that changes neither the index nor the output, by its kind
 unfoldable pub readRule : Index → Cursor → List ℕ → Call → Replayed

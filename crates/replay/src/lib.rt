@@ -11,7 +11,7 @@ use rules::Walk;
 ghost use mathlib.Core.Path.{_≡_};
 ghost use Rattle.rules.specs.Record.{index};
 ghost use Rattle.rules.specs.Refusals.{numberOf, openedOf, answerOf, targetOf, walkOf, stepOf};
-ghost use Rattle.replay.specs.Replaying.{reply, numberReply, spanReply, afterOpen, afterPush, afterIter, afterStep, entryRule, tableRule, replyRule, readRule, playedOf, replayRule};
+ghost use Rattle.replay.specs.Replaying.{reply, numberReply, spanReply, afterOpen, afterPush, afterIter, afterStep, entryRule, tableRule, findRule, replyRule, readRule, playedOf, replayRule};
 
 // A recorded call: its kind and its numbers.
 pub struct Call {
@@ -154,17 +154,27 @@ fn read_reply(
         return got_reply(compact_reader::get(s, starts, bases, offsets, widths, bytes, a));
     }
     if kind == 10 {
-        return target_reply(compact_reader::target_range(
-            s,
-            starts,
-            bases,
-            offsets,
-            widths,
-            bytes,
-            a,
-            b,
-        ));
+        let target = compact_reader::target_range(s, starts, bases, offsets, widths, bytes, a, b);
+        return target_reply(target);
     }
+    find_reply(s, starts, bases, offsets, widths, bytes, call)
+}
+
+// What a search of the index answers, or a look at one entry of its tables.
+fn find_reply(
+    s: State,
+    starts: &[u64],
+    bases: &[u64],
+    offsets: &[u64],
+    widths: &[u8],
+    bytes: &[u8],
+    call: Call,
+) -> Reply
+    ensures { λ r. ⌜ r ≡ findRule (index s (now (starts .entry)) (now (bases .entry)) (now (offsets .entry)) (now (widths .entry)) (now (bytes .entry))) call ⌝ }
+{
+    let kind = call.kind;
+    let a = call.a;
+    let b = call.b;
     if kind == 11 {
         return got_reply(compact_bisect::bisect_left(s, starts, bases, offsets, widths, bytes, a));
     }
