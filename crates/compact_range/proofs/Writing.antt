@@ -15,7 +15,8 @@ use Rattle.rules.specs.Push.{deltaAt}
 use Rattle.rules.specs.Reading.{deltaRead, readIn, getRule}
 use Rattle.laws.specs.Orders.{ordersOf}
 use Rattle.laws.proofs.Tests.{by-test, false-not-true, when-all-case}
-use Rattle.compact_range.specs.Values.{Stays, isValue, valueOf, ValuesIn, sums, Fits, inSegment, gets, puts, Based}
+use Rattle.index_stream.specs.Searches.{Stays}
+use Rattle.compact_range.specs.Values.{isValue, valueOf, ValuesIn, sums, Fits, inSegment, gets, puts, Based}
 use Rattle.compact_range.proofs.Deciding.{get-here}
 
 -- nothing put

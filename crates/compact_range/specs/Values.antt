@@ -15,16 +15,6 @@ use Rattle.index_stream.specs.declared.Found.{Found}
 abbrev pub Rises : List ℕ → ℕ → Type 0
 Rises starts n = (i j : ℕ) → i ≤ j → j < n → getD starts i 0 ≤ getD starts j 0
 
--- halving over the first n starts finds this number for every position from p up to `until`, not including it
-abbrev pub Stays : List ℕ → (n p number until : ℕ) → Type 0
-Stays starts n p number until = (u : ℕ) → p ≤ u → u < until → number ≡ halving (atMost starts u) n .number
-
--- a number found for p, and the position up to which it stays, at most the limit
-pub record Finds (starts : List ℕ) (n p limit : ℕ) (r : Found) : Type 0 where
-  pub after : p < r .until
-  pub within : r .until ≤ limit
-  pub stays : Stays starts n p (r .number) (r .until)
-
 -- an answer that is a value
 abbrev pub isValue : {A : Type 0} → Answer A → Bool
 isValue (value v) = true

@@ -14,7 +14,8 @@ ghost use Rattle.rules.specs.Record.{index};
 ghost use Rattle.rules.specs.Reading.{reads, ranged, rangeRule};
 ghost use Rattle.rules.specs.Refusals.{answerOf};
 ghost use Rattle.laws.specs.Orders.{ordersOf};
-ghost use Rattle.compact_range.specs.Values.{Rises, Finds, isValue, ValuesIn, Sure, sums, Fits, inSegment, gets, puts, Based};
+ghost use Rattle.index_stream.specs.Searches.{Finds};
+ghost use Rattle.compact_range.specs.Values.{Rises, isValue, ValuesIn, Sure, sums, Fits, inSegment, gets, puts, Based};
 
 // Puts the values at a..b into the output from its first entry on and answers how many; if any of them is damaged, none is written.
 pub fn get_range(

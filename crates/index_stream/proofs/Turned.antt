@@ -1,50 +1,14 @@
--- A halving takes the same path at every u from v up to the least entry that it turned down.
+-- The least entry that a halving turns down, step by step as the code finds it.
 use Prim.Native.Nat.{ℕ, zero, suc, _+_, _-_, _≤_, _<_, min}
-use mathlib.Core.Bool.{true, false}
 use mathlib.Core.List.{List}
-use mathlib.Core.Path.{_≡_, refl, sym, ap, _∙_}
+use mathlib.Core.Path.{_≡_, refl, sym, _∙_}
 use native.Mathlib.Omega.{arith}
-use native.Mathlib.Nat.{le-trans}
 use lib.Dec.{ltb}
 use lib.ListN.{getD}
-use borrow.Author.Tests.{ltb-true, leb-true, le-leb, lt-leb, lt-ltb, le-ltb}
-use Rattle.rules.specs.Reading.{probed, middle, halveFrom, halve, halving, atMost}
+use borrow.Author.Tests.{ltb-true, le-leb, lt-leb, lt-ltb, le-ltb}
+use Rattle.rules.specs.Reading.{middle, atMost}
 use Rattle.laws.proofs.Tests.{by-test}
-use Rattle.index_stream.specs.Searches.{turnedFrom, turning, turned}
-
--- never above the limit
-turned-most : (f : ℕ) (table : List ℕ) (v lo hi limit : ℕ) → turnedFrom f table v lo hi limit ≤ limit
-unfolding turnedFrom
-turned-most zero table v lo hi limit = omega arith
-turned-most (suc f) table v lo hi limit =
-    by-test (ltb lo hi)
-    (λ t. by-test (atMost table v (middle lo hi))
-    (λ u. rw (t, u, turnedFrom) (turned-most f table v (middle lo hi + 1) hi limit))
-    (λ u. rw (t, u, turnedFrom) (let r = turned-most f table v lo (middle lo hi) (min (getD table (middle lo hi) 0) limit) in omega arith)))
-    (λ t. rw (t, turnedFrom) (omega arith))
-
--- the same path, from low and high on
-same-from : (f : ℕ) (table : List ℕ) (v u lo hi limit : ℕ) → v ≤ u → u < turnedFrom f table v lo hi limit → halveFrom f (atMost table u) lo hi ≡ halveFrom f (atMost table v) lo hi
-unfolding turnedFrom halveFrom
-same-from zero table v u lo hi limit h l = refl
-same-from (suc f) table v u lo hi limit h l =
-    by-test (ltb lo hi)
-    (λ t. by-test (atMost table v (middle lo hi))
-    (λ w.
-    let e : atMost table u (middle lo hi) ≡ true = le-leb (getD table (middle lo hi) 0) u (le-trans (leb-true (getD table (middle lo hi) 0) v w) h) in
-    rw (t, e, w, halveFrom) (ap probed (same-from f table v u (middle lo hi + 1) hi limit h (rw (t, w, turnedFrom) at l))))
-    (λ w.
-    let r = rw (t, w, turnedFrom) at l in
-    let m = turned-most f table v lo (middle lo hi) (min (getD table (middle lo hi) 0) limit) in
-    let b : u < getD table (middle lo hi) 0 = omega arith in
-    let e : atMost table u (middle lo hi) ≡ false = lt-leb (getD table (middle lo hi) 0) u b in
-    rw (t, e, w, halveFrom) (ap probed (same-from f table v u lo (middle lo hi) (min (getD table (middle lo hi) 0) limit) h r))))
-    (λ t. rw (t, halveFrom))
-
--- for every u from v up to the least entry turned down: the same number, and the same probes
-pub same-path : (table : List ℕ) (n v u limit : ℕ) → v ≤ u → u < turned table v n limit → halving (atMost table u) n ≡ halving (atMost table v) n
-unfolding halve turning
-same-path table n v u limit h l = same-from (n - 0) table v u 0 n limit h l
+use Rattle.index_stream.specs.Searches.{turnedFrom, turning}
 
 -- enough turns are enough
 turns-enough : (f g : ℕ) (table : List ℕ) (v lo hi limit : ℕ) → hi - lo ≤ f → hi - lo ≤ g → turnedFrom f table v lo hi limit ≡ turnedFrom g table v lo hi limit

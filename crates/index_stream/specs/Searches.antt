@@ -32,9 +32,12 @@ turning table v low high limit = turnedFrom (high - low) table v low high limit
 abbrev pub turned : List ℕ → ℕ → ℕ → ℕ → ℕ
 turned table v n limit = turning table v 0 n limit
 
--- number is what halving finds for v and for every u from v up to until; until is the least entry turned down, or the limit
-pub record FoundFor (table : List ℕ) (n v limit : ℕ) (r : Found) : Type 0 where
+-- halving over the first n entries finds this number for every value from v up to `until`, not including it
+abbrev pub Stays : List ℕ → (n v number until : ℕ) → Type 0
+Stays table n v number until = (u : ℕ) → v ≤ u → u < until → number ≡ halving (atMost table u) n .number
+
+-- a number found for v, and the value up to which it stays, at most the limit
+pub record Finds (table : List ℕ) (n v limit : ℕ) (r : Found) : Type 0 where
   pub after : v < r .until
   pub within : r .until ≤ limit
-  pub least : r .until ≡ turned table v n limit
-  pub stays : (u : ℕ) → v ≤ u → u < r .until → r .number ≡ halving (atMost table u) n .number
+  pub stays : Stays table n v (r .number) (r .until)

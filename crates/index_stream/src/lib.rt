@@ -3,7 +3,7 @@ ghost use mathlib.Core.Path.{_≡_};
 ghost use Prim.Native.Nat.{_≤_, _<_, min};
 ghost use lib.ListN.{length};
 ghost use Rattle.rules.specs.Reading.{halving, atMost};
-ghost use Rattle.index_stream.specs.Searches.{below, FoundFor};
+ghost use Rattle.index_stream.specs.Searches.{below, turned, Finds};
 
 // The halving over the first n entries with the test "entry at most v": in a sorted table, how many are at most v.
 pub fn bisect_right(table: &[u64], n: u64, v: u64) -> u64
@@ -54,7 +54,7 @@ pub struct Found {
 // bisect_right for v, and the least entry that it turned down, or the limit: it finds the same for every value from v up to there.
 pub fn bisect_right_until(table: &[u64], n: u64, v: u64, limit: u64) -> Found
     requires { ⌜ (n ≤ length (now table)) × (v < limit) ⌝ }
-    ensures { λ r. ⌜ FoundFor (now (table .entry)) n v limit r ⌝ }
+    ensures { λ r. ⌜ Finds (now (table .entry)) n v limit r × (r .until ≡ turned (now (table .entry)) v n limit) ⌝ }
 {
     let mut low: u64 = 0;
     let mut high: u64 = n;

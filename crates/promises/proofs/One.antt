@@ -46,10 +46,6 @@ same-refusal Counts = refl
 same-refusal Damaged = refl
 same-refusal Minimum = refl
 
--- one refusal has the number n
-pub one-refusal : (n : ℕ) → One numberOf n
-one-refusal n = one numberOf refusalOf n same-refusal
-
 -- the code's answer to an answer: `f` of a value, `g` of a refusal
 abbrev either : {A C : Type 0} → (A → C) → (Refusal → C) → Answer A → C
 either f g (value v) = f v

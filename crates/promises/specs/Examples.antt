@@ -1,7 +1,6 @@
 -- Every sentence of every table comes about, and where two apply the first in order is given: small inputs, in the order of the tables.
 use Prim.Native.Nat.{ℕ, _-_, _^_}
 use mathlib.Core.List.{List, [], _∷_}
-use Rattle.rules.specs.declared.State.{State}
 use Rattle.rules.specs.Words.{Answer, value, refused}
 use Rattle.rules.specs.Record.{Index, index, state, openRule}
 use Rattle.rules.specs.Push.{pushRule, lengthRule, sizeRule}

@@ -1,6 +1,6 @@
 -- What "no second answer fits" means, and what a push and a get_range leave beside their answer.
 use Prim.Native.Nat.{ℕ}
-use mathlib.Core.List.{List, []}
+use mathlib.Core.List.{List}
 use mathlib.Core.Path.{_≡_}
 use Rattle.rules.specs.declared.Refusal.{Refusal}
 use Rattle.rules.specs.declared.Pushed.{Pushed}

@@ -6,13 +6,19 @@ use mathlib.Core.Logic.{_↔_}
 use native.Mathlib.Omega.{arith}
 use lib.ListN.{length, getD, take, drop}
 use Rattle.rules.specs.declared.Cursor.{Cursor}
-use Rattle.rules.specs.Words.{value, refused}
+use Rattle.rules.specs.declared.Refusal.{Refusal}
+use Rattle.rules.specs.declared.Opened.{Opened}
+use Rattle.rules.specs.declared.Got.{Got}
+use Rattle.rules.specs.declared.Target.{Target}
+use Rattle.rules.specs.declared.Walk.{Walk}
+use Rattle.rules.specs.declared.Step.{Step}
+use Rattle.rules.specs.Words.{Answer, value, refused}
 use Rattle.rules.specs.Record.{Index, lengthOf, minimumOf, segmentsOf, widthsOf, usedOf, lastOf, start, base, width, roomOf, openRule}
 use Rattle.rules.specs.Push.{pushRule, lengthRule, sizeRule}
 use Rattle.rules.specs.Reading.{startsUpTo, getRule, reads, ranged, rangeRule, cursor, iterRule, stays, stepRule, runCountRule, runValueRule, span, targetRule, basesUpTo, bisectRule, bisectRangeRule}
 use Rattle.rules.specs.Audit.{wellFormed, deltas, auditRule, A, flaw, verdictOf}
 use Rattle.rules.specs.Run.{fresh, run, accepted, howMany, NeverFalls}
-use Rattle.rules.specs.Refusals.{openedOf, answerOf, targetOf, walkOf, stepOf}
+use Rattle.rules.specs.Refusals.{numberOf, openedOf, answerOf, targetOf, walkOf, stepOf}
 use Rattle.demands.specs.Terms.{Small, RoomFor, Walks, bytesOf}
 use Rattle.demands.proofs.WellFormed.{audit-well, well-audit}
 use Rattle.demands.proofs.Bounds.{counts-hold, segments-half, last-above, segments-spread}
@@ -25,7 +31,7 @@ use Rattle.demands.proofs.Walks.{walk-reads, reads-walk, walk-range}
 use Rattle.demands.proofs.DeltaRun.{run-count, run-value}
 use Rattle.demands.proofs.Room.{accepted-most, refused-most, refused-below}
 use Rattle.demands.proofs.Undamaged.{not-ten, get-undamaged, range-undamaged, step-undamaged, target-undamaged, bisect-undamaged, bisect-range-undamaged}
-use Rattle.promises.specs.Sentences.{Exactly}
+use Rattle.promises.specs.Sentences.{Sentence, Given, Exactly}
 use Rattle.promises.specs.Table.{CountsRule, openTable, pushTable, countsTable, getTable, rangeTable, iterTable, targetTable, bisectTable, bisectRangeTable, runCountTable, runValueTable}
 use Rattle.promises.specs.Steps.{StepExactly}
 use Rattle.promises.specs.Audited.{AuditExactly}
@@ -34,10 +40,11 @@ use Rattle.promises.proofs.Reading.{get-decided, range-decided, iter-decided, t
 use Rattle.promises.proofs.Push.{push-decided}
 use Rattle.promises.proofs.Steps.{step-decided}
 use Rattle.promises.proofs.Audited.{audit-decided, audit-counts}
-use Rattle.promises.specs.Outcomes.{One, pushSays, rangeSays}
+use Rattle.promises.specs.Outcomes.{One, PushLeft, pushSays, pushUnchanged, RangeLeft, rangeSays, rangeUnchanged}
 use Rattle.promises.specs.Kept.{Appended, Does, Filled}
 use Rattle.promises.proofs.One.{one-opened, one-pushed, one-got, one-ranged, one-targeted, one-walk, one-stepped, one-judged}
 use Rattle.promises.proofs.Stays as stays-laws
+use Rattle.promises.proofs.Answers as code
 
 -- A RUN: a fresh index with m 1 to 8 over any lent tables, and any u64 values pushed one after another, refused ones included
 module _ (m : ℕ) (starts bases offsets widths bytes : List ℕ) (m-least : 1 ≤ m) (m-most : m ≤ 8) (us : List ℕ) (small : Small us) where
@@ -261,6 +268,38 @@ audit-exactly x = audit-decided x
 -- the audit answers A where the others answer 9, with segment 0
 pub audit-a-exactly : (x : Index) (k : ℕ) → (auditRule x ≡ flaw A k) ↔ ((CountsRule x → ⊥) × (k ≡ 0))
 audit-a-exactly x k = audit-counts x k
+
+-- THE CODE REFUSES JUST THEN: whatever meets a promise is the refusal e if and only if the table gives e's number
+module _ (e : Refusal) where
+  -- opening
+  pub open-refuses : (m : ℕ) (c : Opened) → openedOf c ≡ openRule m → (c ≡ Opened.Refused e) ↔ Given (openTable m) (numberOf e)
+  open-refuses m = code.opened-refuses e (open-exactly m)
+
+  -- a push, with the state and every entry of the five tables as they were
+  pub push-refuses : (x : Index) (v : ℕ) (c : PushLeft) → pushSays c ≡ pushRule x v → (c ≡ pushUnchanged x e) ↔ Given (pushTable x v) (numberOf e)
+  push-refuses x v = code.push-refuses x v e
+
+  -- a call for one number: length, size, get, a bisect, a delta run, each by its theorem above
+  pub number-refuses : {t : List Sentence} {rule : Answer ℕ} → Exactly t rule → (c : Got) → answerOf c ≡ rule → (c ≡ Got.Refused e) ↔ Given t (numberOf e)
+  number-refuses = code.got-refuses e
+
+  -- get_range, with every entry of the output as it was
+  pub range-refuses : (x : Index) (a b : ℕ) (out : List ℕ) (c : RangeLeft) → rangeSays c ≡ rangeRule x a b out
+      → (c ≡ rangeUnchanged out e) ↔ Given (rangeTable x a b out) (numberOf e)
+  range-refuses x a b out = code.range-refuses x a b out e
+
+  -- opening a cursor
+  pub iter-refuses : (x : Index) (a b : ℕ) (c : Walk) → walkOf c ≡ iterRule x a b → (c ≡ Walk.Refused e) ↔ Given (iterTable x a b) (numberOf e)
+  iter-refuses x a b = code.walk-refuses e (iter-exactly x a b)
+
+  -- a step, with the cursor as it was
+  pub step-refuses : (x : Index) (c : Cursor) (r : Step) → stepOf r ≡ stepRule x c
+      → (r ≡ Step.Refused c e) ↔ ((c .next < c .end) × Given (getTable x (c .next)) (numberOf e))
+  step-refuses x c = code.step-refuses x c e
+
+  -- target_range
+  pub target-refuses : (x : Index) (p t : ℕ) (c : Target) → targetOf c ≡ targetRule x p t → (c ≡ Target.Refused e) ↔ Given (targetTable x p) (numberOf e)
+  target-refuses x p t = code.target-refuses e (target-exactly x p t)
 
 -- NO SECOND ANSWER: two outcomes of the code that both meet a promise are equal, at any input. Opening
 pub one-open : (m : ℕ) → One openedOf (openRule m)

@@ -50,10 +50,7 @@ returns c =
           (below-next starts (s .args .n) (s .args .k + 1) (s .args .limit) (n .entry-or .result) _ u (n .entry-or .ensures) r h);
     }
 
-returns-2 : tie.Need-returns-2
-returns-2 c = let f = c .bisect-right-until .ensures in record { after = f .after; within = f .within; stays = f .stays }
-
 pub find-spec : {M : Type 1} → statement M
 find-spec = tie.close (tie.spec
     add-entry-or (λ c κs. search needs) mul-if2 shared-slice-read-if2 add-t17 (λ c κs. search needs) returns
-    (λ c κs. search needs) returns-2)
+    (λ c κs. search needs) (λ c. c .bisect-right-until .ensures .0))

@@ -43,7 +43,7 @@ loop-again-2 c =
 returns : tie.Need-returns Inv-loop μ-loop
 returns c =
     let i = c .before .loop .inv in
-    record { after = i .2; within = i .3; least = sym (turning-done _ _ _ _ _ (c .if1 .taken)) ∙ i .5; stays = λ u l h. halfway-done (i .4 u l h) (c .if1 .taken) }
+    (record { after = i .2; within = i .3; stays = λ u l h. halfway-done (i .4 u l h) (c .if1 .taken) }, sym (turning-done _ _ _ _ _ (c .if1 .taken)) ∙ i .5)
 
 pub bisect-right-until-spec : {M : Type 1} → statement M
 bisect-right-until-spec = tie.close (tie.spec
