@@ -1,4 +1,4 @@
-//! Names the original's files, where they lie, as modules of this crate, and the size of a block and the ground: the package's name says both.
+//! Names the original's files, where they lie, as modules of this crate. The package's name says the size of a block, and the ground.
 //!
 //! ROTLANTERN_ORIGINAL is the folder that holds the original's `src`; a relative one counts from the repository's root.
 
