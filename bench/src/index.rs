@@ -13,17 +13,19 @@ pub enum Operation {
     Bisect,
     RangeOfAll,
     RangeOf16,
+    Step,
     Walk,
     Audit,
 }
 
 impl Operation {
-    pub const ALL: [Operation; 7] = [
+    pub const ALL: [Operation; 8] = [
         Operation::Push,
         Operation::Get,
         Operation::Bisect,
         Operation::RangeOfAll,
         Operation::RangeOf16,
+        Operation::Step,
         Operation::Walk,
         Operation::Audit,
     ];
@@ -41,7 +43,8 @@ impl Operation {
             Operation::Bisect => "bisect_left, at random",
             Operation::RangeOfAll => "get_range of all, a value",
             Operation::RangeOf16 => "get_range of 16, a call",
-            Operation::Walk => "a walk over all, a step",
+            Operation::Step => "a step",
+            Operation::Walk => "a walk over all, a value",
             Operation::Audit => "audit, in microseconds",
         }
     }
@@ -70,6 +73,10 @@ pub trait Reader {
     fn get_range(&mut self, a: u64, b: u64, out: &mut Vec<u64>);
     /// All values in turn, mixed.
     fn walk(&mut self, length: u64) -> u64;
+    /// The same by single steps, where the walk is something else.
+    fn steps(&mut self, length: u64) -> u64 {
+        self.walk(length)
+    }
     /// Whether the tables are well formed, where the engine has an audit.
     fn audit(&mut self) -> Option<bool> {
         None
@@ -103,31 +110,39 @@ impl<E: Engine> Index for E {
         Engine::lent(self)
     }
 
-    #[inline(never)]
     fn round(&mut self, operation: Operation, input: &Input, asked: Range<usize>, out: &mut Vec<u64>) -> Option<u64> {
         if operation == Operation::Push {
-            return Some(input.values.iter().fold(0, |sum, &value| mix(sum, self.push(value))));
+            return apart(|| input.values.iter().fold(0, |sum, &value| mix(sum, self.push(value))));
         }
         let (positions, wanted) = (&input.positions[asked.clone()], &input.wanted[asked]);
         let length = input.values.len() as u64;
         let mut reader = self.reader();
         match operation {
             Operation::Push => None,
-            Operation::Get => Some(positions.iter().fold(0, |sum, &p| mix(sum, reader.get(p)))),
-            Operation::Bisect => Some(wanted.iter().fold(0, |sum, &v| mix(sum, reader.bisect_left(v)))),
+            Operation::Get => apart(|| positions.iter().fold(0, |sum, &p| mix(sum, reader.get(p)))),
+            Operation::Bisect => apart(|| wanted.iter().fold(0, |sum, &v| mix(sum, reader.bisect_left(v)))),
             // The values are compared after the round.
             Operation::RangeOfAll => {
                 reader.get_range(0, length, out);
                 Some(length)
             }
-            Operation::RangeOf16 => Some(positions.iter().fold(0, |sum, &p| {
-                reader.get_range(p, p + 16, out);
-                out[..16].iter().fold(sum, |sum, &value| sum.wrapping_add(value))
-            })),
-            Operation::Walk => Some(reader.walk(length)),
+            Operation::RangeOf16 => apart(|| {
+                positions.iter().fold(0, |sum, &p| {
+                    reader.get_range(p, p + 16, out);
+                    out[..16].iter().fold(sum, |sum, &value| sum.wrapping_add(value))
+                })
+            }),
+            Operation::Step => apart(|| reader.steps(length)),
+            Operation::Walk => apart(|| reader.walk(length)),
             Operation::Audit => reader.audit().map(u64::from),
         }
     }
+}
+
+/// A loop in a function of its own, so that none changes how another is compiled.
+#[inline(never)]
+fn apart(answers: impl FnOnce() -> u64) -> Option<u64> {
+    Some(answers())
 }
 
 /// Mixes an answer into the answers before it, so that order counts.

@@ -1,6 +1,6 @@
 //! The proved code, called through its border.
 
-use rotlantern::{push, State, Tables, TablesMut, Verdict, View};
+use rotlantern::{push, Cursor, State, Tables, TablesMut, Verdict, View};
 
 use crate::index::{mix, Engine, Reader};
 
@@ -88,8 +88,17 @@ impl Reader for View<'_> {
     }
 
     fn walk(&mut self, length: u64) -> u64 {
-        let steps = self.iter(0, length).unwrap();
-        steps.fold(0, |sum, value| mix(sum, value.unwrap()))
+        let values = self.iter(0, length).unwrap();
+        values.fold(0, |sum, value| mix(sum, value.unwrap()))
+    }
+
+    fn steps(&mut self, length: u64) -> u64 {
+        let mut cursor = Cursor { next: 0, end: length };
+        let mut sum = 0;
+        while let Some(value) = self.next(&mut cursor).unwrap() {
+            sum = mix(sum, value);
+        }
+        sum
     }
 
     fn audit(&mut self) -> Option<bool> {

@@ -5,13 +5,19 @@ use std::ops::Range;
 
 use crate::index::{Index, Operation};
 use crate::inputs::{Input, QUESTIONS};
-use crate::original::Original;
+use crate::original::{Light, Locked};
 use crate::plain::Plain;
 use crate::proved::Proved;
 use crate::twin::Twin;
 
 /// The engines by name, in the order of the tables.
-pub const ENGINES: [&str; 4] = ["proved", "twin", "original", "plain"];
+pub const ENGINES: [&str; 5] = ["proved", "twin", "original, light", "original, locked", "plain"];
+
+/// The places of the others beside the proved code.
+pub const TWIN: usize = 1;
+pub const LIGHT: usize = 2;
+pub const LOCKED: usize = 3;
+pub const PLAIN: usize = 4;
 
 /// How many rounds each engine is timed for.
 pub const ROUNDS: usize = 21;
@@ -32,7 +38,8 @@ impl Filled {
         let mut index: Box<dyn Index> = match engine {
             "proved" => Box::new(Proved::new(n)),
             "twin" => Box::new(Twin::new(n)),
-            "original" => Box::new(Original::new(&input.values)),
+            "original, light" => Box::new(Light::new(&input.values)),
+            "original, locked" => Box::new(Locked::new(&input.values)),
             "plain" => Box::new(Plain(Vec::new())),
             _ => panic!("no engine {engine}"),
         };
@@ -54,16 +61,16 @@ impl Filled {
     }
 }
 
-/// The best times of the four engines, in nanoseconds for one call or value, in microseconds for an audit; none where an engine lacks the operation.
-pub type Times = [Option<f64>; 4];
+/// The best times of the engines, in nanoseconds for one call or value, in microseconds for an audit; none where an engine lacks the operation.
+pub type Times = [Option<f64>; ENGINES.len()];
 
 /// Measures an operation. Every part of every round must give the plain vector's answers, where that has the operation.
-pub fn measure(operation: Operation, input: &Input, engines: &mut [Filled; 4]) -> Times {
+pub fn measure(operation: Operation, input: &Input, engines: &mut [Filled; ENGINES.len()]) -> Times {
     let parts = ENGINES.map(|engine| parts(operation, input, engine));
-    let right = parts.each_ref().map(|parts| answers(&mut engines[3], operation, input, parts));
+    let right = parts.each_ref().map(|parts| answers(&mut engines[PLAIN], operation, input, parts));
     let mut best = parts.each_ref().map(|parts| vec![f64::INFINITY; parts.len()]);
     for _ in 0..ROUNDS {
-        for engine in 0..4 {
+        for engine in 0..ENGINES.len() {
             lend(engines, engine);
             // A first round warms the caches, alike for each engine.
             answers(&mut engines[engine], operation, input, &parts[engine]);
@@ -88,7 +95,7 @@ pub fn measure(operation: Operation, input: &Input, engines: &mut [Filled; 4]) -
 fn parts(operation: Operation, input: &Input, engine: &str) -> Vec<Range<usize>> {
     let (asked, parts) = match operation {
         // The original reads the whole segment for each search: it is asked the first few questions alone.
-        Operation::Bisect if engine == "original" && input.name == "one long segment" => (PARTS, PARTS),
+        Operation::Bisect if engine.starts_with("original") && input.name == "one long segment" => (PARTS, PARTS),
         operation if operation.asks() => (QUESTIONS, PARTS),
         _ => (0, 1),
     };
@@ -111,9 +118,9 @@ pub fn units(operation: Operation, input: &Input, asked: usize) -> f64 {
 }
 
 /// Hands the proved code's tables over to the twin for its round, and back: both work on the same memory.
-fn lend(engines: &mut [Filled; 4], engine: usize) {
+fn lend(engines: &mut [Filled; ENGINES.len()], engine: usize) {
     let [proved, twin, ..] = engines;
-    if engine < 2 {
+    if engine <= TWIN {
         mem::swap(proved.index.lent().unwrap(), twin.index.lent().unwrap());
         mem::swap(&mut proved.out, &mut twin.out);
     }

@@ -1,4 +1,4 @@
-//! Names the original's files, where they lie, as modules of this crate, and the size of a block.
+//! Names the original's files, where they lie, as modules of this crate. The package's name says the size of a block, and the ground.
 //!
 //! ROTLANTERN_ORIGINAL is the folder that holds the original's `src`; a relative one counts from the repository's root.
 
@@ -23,7 +23,14 @@ fn main() {
         }
         write_out(&format!("{module}.rs"), &text);
     }
-    let block = package.strip_prefix("block").unwrap();
+    println!("cargo:rustc-check-cfg=cfg(locked)");
+    let block = match package.strip_prefix("locked") {
+        Some(block) => {
+            println!("cargo:rustc-cfg=locked");
+            block
+        }
+        None => package.strip_prefix("block").unwrap(),
+    };
     write_out("block.rs", &format!("pub const MIN_BLOCK: usize = {block};\n"));
     println!("cargo:rerun-if-env-changed=ROTLANTERN_ORIGINAL");
 }

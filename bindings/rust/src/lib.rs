@@ -17,6 +17,7 @@
 mod sys;
 
 use std::fmt;
+use std::ops::Range;
 
 /// Why a call is refused, by its number.
 #[derive(Clone, Copy, Debug, PartialEq, Eq)]
@@ -277,8 +278,35 @@ impl<'a> View<'a> {
         Ok(Iter {
             view: *self,
             cursor,
-            refused: false,
+            ahead: [0; AHEAD],
+            ready: 0..0,
         })
+    }
+
+    /// One step of a walk: the value at the cursor, which moves on, or none at its end. A refused step leaves the cursor.
+    #[inline]
+    pub fn next(&self, cursor: &mut Cursor) -> Result<Option<u64>, Refusal> {
+        let (mut value, mut done) = (0, 0);
+        let t = self.tables;
+        Refusal::check(unsafe {
+            sys::rotlantern_next(
+                cursor,
+                &self.state,
+                t.starts.as_ptr(),
+                t.starts.len(),
+                t.bases.as_ptr(),
+                t.bases.len(),
+                t.offsets.as_ptr(),
+                t.offsets.len(),
+                t.widths.as_ptr(),
+                t.widths.len(),
+                t.data.as_ptr(),
+                t.data.len(),
+                &mut value,
+                &mut done,
+            )
+        })?;
+        Ok((done == 0).then_some(value))
     }
 
     /// The range of values from the one at a position to the next one, or to the target length.
@@ -332,12 +360,19 @@ impl<'a> View<'a> {
     }
 }
 
-/// A walk over the values of a view.
+/// How many values a walk reads at once.
+const AHEAD: usize = 64;
+
+/// A walk over the values of a view. It reads some values ahead, and gives what single steps would give.
 #[derive(Clone, Debug)]
 pub struct Iter<'a> {
     view: View<'a>,
+    /// What is not read yet.
     cursor: Cursor,
-    refused: bool,
+    /// The values last read.
+    ahead: [u64; AHEAD],
+    /// Which of them are not given yet.
+    ready: Range<usize>,
 }
 
 impl Iterator for Iter<'_> {
@@ -345,37 +380,34 @@ impl Iterator for Iter<'_> {
 
     #[inline]
     fn next(&mut self) -> Option<Self::Item> {
-        if self.refused {
-            return None;
+        match self.ready.next() {
+            Some(i) => Some(Ok(self.ahead[i])),
+            None => self.read_on(),
         }
-        let (mut value, mut done) = (0, 0);
-        let t = self.view.tables;
-        let answered = Refusal::check(unsafe {
-            sys::rotlantern_next(
-                &mut self.cursor,
-                &self.view.state,
-                t.starts.as_ptr(),
-                t.starts.len(),
-                t.bases.as_ptr(),
-                t.bases.len(),
-                t.offsets.as_ptr(),
-                t.offsets.len(),
-                t.widths.as_ptr(),
-                t.widths.len(),
-                t.data.as_ptr(),
-                t.data.len(),
-                &mut value,
-                &mut done,
-            )
-        });
-        match answered {
-            Err(refusal) => {
-                self.refused = true;
-                Some(Err(refusal))
-            }
-            Ok(()) if done == 1 => None,
-            Ok(()) => Some(Ok(value)),
+    }
+}
+
+impl Iter<'_> {
+    /// Reads ahead and gives the first value. Where one of the values is refused, takes a single step. `walk-as-range` and
+    /// `walk-there` in crates/theorems: what a range answers is what the steps give.
+    fn read_on(&mut self) -> Option<Result<u64, Refusal>> {
+        let Cursor { next, end } = self.cursor;
+        let until = end.min(next + AHEAD as u64);
+        let Ok(count) = self.view.get_range(next, until, &mut self.ahead) else {
+            return self.step();
+        };
+        self.cursor.next = until;
+        self.ready = 0..count as usize;
+        self.ready.next().map(|i| Ok(self.ahead[i]))
+    }
+
+    /// A single step. A refused one ends the walk.
+    fn step(&mut self) -> Option<Result<u64, Refusal>> {
+        let answer = self.view.next(&mut self.cursor);
+        if answer.is_err() {
+            self.cursor.end = self.cursor.next;
         }
+        answer.transpose()
     }
 }
 
@@ -541,6 +573,11 @@ impl CompactIndex {
     /// A walk over a..b.
     pub fn iter(&self, a: u64, b: u64) -> Result<Iter<'_>, Refusal> {
         self.view().iter(a, b)
+    }
+
+    /// One step of a walk, as [`View::next`] takes it. Values may be pushed between the steps.
+    pub fn next(&self, cursor: &mut Cursor) -> Result<Option<u64>, Refusal> {
+        self.view().next(cursor)
     }
 
     /// The range of values from the one at a position to the next one, or to the target length.

@@ -1,10 +1,16 @@
 //! The original compact index, compiled unchanged, over stand-ins for the parts of Packetry that it is built on.
 //!
 //! `database::{compact_index, index_stream, data_stream}` and `util::id` are the original's own files. Everything else here is ours:
-//! `database::{counter, stream}`, `util::{dump, fmt_count, fmt_size}`, and `Index` below, which only calls the original.
+//! `database::{counter, stream}`, `util::{dump, fmt_count, fmt_size}`, the two grounds that streams are shared on, and `Index` below, which
+//! only calls the original.
 
 // The original has `len` without `is_empty`, and asks the same of its streams.
 #![allow(clippy::len_without_is_empty)]
+
+// The package's name says which of the two.
+#[cfg_attr(locked, path = "locked.rs")]
+#[cfg_attr(not(locked), path = "light.rs")]
+mod ground;
 
 pub mod database {
     pub mod counter;

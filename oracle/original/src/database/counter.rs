@@ -1,16 +1,17 @@
 //! Stand-in for Packetry's counters: a number that the writer stores and readers load. Snapshots are left out, as in document 01.
 
-use std::rc::Rc;
 use std::sync::atomic::{AtomicU64, Ordering};
 
 use super::stream::Store;
+use crate::ground::Shared;
 
+#[derive(Default)]
 pub struct Counter(AtomicU64);
 
 /// Makes counters; here it also keeps hold of each stream made with it, so that a run can look at the bytes.
 #[derive(Default)]
 pub struct CounterSet {
-    streams: Vec<Rc<Store>>,
+    streams: Vec<Shared<Store>>,
 }
 
 pub struct Snapshot;
@@ -35,11 +36,11 @@ impl CounterSet {
     }
 
     pub fn new_counter(&mut self) -> Counter {
-        Counter(AtomicU64::new(0))
+        Counter::default()
     }
 
     /// Keeps hold of a stream.
-    pub fn keep(&mut self, store: &Rc<Store>) {
+    pub fn keep(&mut self, store: &Shared<Store>) {
         self.streams.push(store.clone());
     }
 
