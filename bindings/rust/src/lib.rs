@@ -490,6 +490,7 @@ impl CompactIndex {
     }
 
     /// Adds a value at the end, and answers its position. A table that is full is doubled; what is refused then has met a limit.
+    #[inline]
     pub fn push(&mut self, value: u64) -> Result<u64, Refusal> {
         match self.try_push(value) {
             Err(Refusal::SegmentRoom | Refusal::WidthRoom | Refusal::DataRoom) => {
@@ -500,6 +501,7 @@ impl CompactIndex {
         }
     }
 
+    #[inline]
     fn try_push(&mut self, value: u64) -> Result<u64, Refusal> {
         let tables = TablesMut {
             starts: &mut self.starts,
@@ -512,6 +514,7 @@ impl CompactIndex {
     }
 
     /// Room for twice the entries in use, and some.
+    #[cold]
     fn grow(&mut self) {
         let entries = 2 * self.state.segments as usize + 4;
         for table in [&mut self.starts, &mut self.bases, &mut self.offsets] {
@@ -523,6 +526,7 @@ impl CompactIndex {
     }
 
     /// The index for reading.
+    #[inline]
     pub fn view(&self) -> View<'_> {
         let tables = Tables {
             starts: &self.starts,
@@ -538,31 +542,37 @@ impl CompactIndex {
     }
 
     /// The five numbers.
+    #[inline]
     pub fn state(&self) -> State {
         self.state
     }
 
     /// How many values there are.
+    #[inline]
     pub fn len(&self) -> u64 {
         self.state.length
     }
 
     /// Whether there is no value.
+    #[inline]
     pub fn is_empty(&self) -> bool {
         self.state.length == 0
     }
 
     /// How many bytes the entries in use take.
+    #[inline]
     pub fn size(&self) -> Result<u64, Refusal> {
         self.view().size()
     }
 
     /// The value at a position.
+    #[inline]
     pub fn get(&self, position: u64) -> Result<u64, Refusal> {
         self.view().get(position)
     }
 
     /// The values at a..b.
+    #[inline]
     pub fn get_range(&self, a: u64, b: u64) -> Result<Vec<u64>, Refusal> {
         let room = b.min(self.len()).saturating_sub(a);
         let mut values = vec![0; room as usize];
@@ -571,26 +581,31 @@ impl CompactIndex {
     }
 
     /// A walk over a..b.
+    #[inline]
     pub fn iter(&self, a: u64, b: u64) -> Result<Iter<'_>, Refusal> {
         self.view().iter(a, b)
     }
 
     /// One step of a walk, as [`View::next`] takes it. Values may be pushed between the steps.
+    #[inline]
     pub fn next(&self, cursor: &mut Cursor) -> Result<Option<u64>, Refusal> {
         self.view().next(cursor)
     }
 
     /// The range of values from the one at a position to the next one, or to the target length.
+    #[inline]
     pub fn target_range(&self, position: u64, target_length: u64) -> Result<(u64, u64), Refusal> {
         self.view().target_range(position, target_length)
     }
 
     /// The leftmost position where a value would be ordered.
+    #[inline]
     pub fn bisect_left(&self, value: u64) -> Result<u64, Refusal> {
         self.view().bisect_left(value)
     }
 
     /// The same, raised to at least a and lowered to at most b.
+    #[inline]
     pub fn bisect_range_left(&self, a: u64, b: u64, value: u64) -> Result<u64, Refusal> {
         self.view().bisect_range_left(a, b, value)
     }
