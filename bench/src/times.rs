@@ -69,8 +69,10 @@ pub fn measure(operation: Operation, input: &Input, engines: &mut [Filled; ENGIN
     let parts = ENGINES.map(|engine| parts(operation, input, engine));
     let right = parts.each_ref().map(|parts| answers(&mut engines[PLAIN], operation, input, parts));
     let mut best = parts.each_ref().map(|parts| vec![f64::INFINITY; parts.len()]);
-    for _ in 0..ROUNDS {
-        for engine in 0..ENGINES.len() {
+    for round in 0..ROUNDS {
+        for turn in 0..ENGINES.len() {
+            // Every other round goes backwards, so that each of two neighbours comes second as often.
+            let engine = if round % 2 == 0 { turn } else { ENGINES.len() - 1 - turn };
             lend(engines, engine);
             // A first round warms the caches, alike for each engine.
             answers(&mut engines[engine], operation, input, &parts[engine]);
