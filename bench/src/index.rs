@@ -35,6 +35,11 @@ impl Operation {
         matches!(self, Operation::Get | Operation::Bisect | Operation::RangeOf16)
     }
 
+    /// Whether a round is one call.
+    pub fn whole(self) -> bool {
+        matches!(self, Operation::RangeOfAll | Operation::Audit)
+    }
+
     /// The operation as the tables name it.
     pub fn name(self) -> &'static str {
         match self {
@@ -71,11 +76,11 @@ pub trait Reader {
     fn bisect_left(&mut self, value: u64) -> u64;
     /// The values at a..b, in `out` from its first entry on; `out` has room for all values.
     fn get_range(&mut self, a: u64, b: u64, out: &mut Vec<u64>);
-    /// All values in turn, mixed.
-    fn walk(&mut self, length: u64) -> u64;
+    /// The values at a..b in turn, mixed.
+    fn walk(&mut self, a: u64, b: u64) -> u64;
     /// The same by single steps, where the walk is something else.
-    fn steps(&mut self, length: u64) -> u64 {
-        self.walk(length)
+    fn steps(&mut self, a: u64, b: u64) -> u64 {
+        self.walk(a, b)
     }
     /// Whether the tables are well formed, where the engine has an audit.
     fn audit(&mut self) -> Option<bool> {
@@ -89,8 +94,8 @@ pub trait Index {
     fn empty_for(&mut self, operation: Operation);
     fn size(&self) -> u64;
     fn lent(&mut self) -> Option<&mut Lent>;
-    /// One round of an operation: its answers mixed into one number, or none where the engine lacks it.
-    /// Of the positions and values, those in `asked` are asked for.
+    /// A part of a round of an operation: its answers mixed into one number, or none where the engine lacks it.
+    /// Of the questions, or else of the values, it takes those in `asked`.
     fn round(&mut self, operation: Operation, input: &Input, asked: Range<usize>, out: &mut Vec<u64>) -> Option<u64>;
 }
 
@@ -112,28 +117,27 @@ impl<E: Engine> Index for E {
 
     fn round(&mut self, operation: Operation, input: &Input, asked: Range<usize>, out: &mut Vec<u64>) -> Option<u64> {
         if operation == Operation::Push {
-            return apart(|| input.values.iter().fold(0, |sum, &value| mix(sum, self.push(value))));
+            return apart(|| input.values[asked].iter().fold(0, |sum, &value| mix(sum, self.push(value))));
         }
-        let (positions, wanted) = (&input.positions[asked.clone()], &input.wanted[asked]);
-        let length = input.values.len() as u64;
+        let (a, b) = (asked.start as u64, asked.end as u64);
         let mut reader = self.reader();
         match operation {
             Operation::Push => None,
-            Operation::Get => apart(|| positions.iter().fold(0, |sum, &p| mix(sum, reader.get(p)))),
-            Operation::Bisect => apart(|| wanted.iter().fold(0, |sum, &v| mix(sum, reader.bisect_left(v)))),
+            Operation::Get => apart(|| input.positions[asked].iter().fold(0, |sum, &p| mix(sum, reader.get(p)))),
+            Operation::Bisect => apart(|| input.wanted[asked].iter().fold(0, |sum, &v| mix(sum, reader.bisect_left(v)))),
             // The values are compared after the round.
             Operation::RangeOfAll => {
-                reader.get_range(0, length, out);
-                Some(length)
+                reader.get_range(a, b, out);
+                Some(b)
             }
             Operation::RangeOf16 => apart(|| {
-                positions.iter().fold(0, |sum, &p| {
+                input.positions[asked].iter().fold(0, |sum, &p| {
                     reader.get_range(p, p + 16, out);
                     out[..16].iter().fold(sum, |sum, &value| sum.wrapping_add(value))
                 })
             }),
-            Operation::Step => apart(|| reader.steps(length)),
-            Operation::Walk => apart(|| reader.walk(length)),
+            Operation::Step => apart(|| reader.steps(a, b)),
+            Operation::Walk => apart(|| reader.walk(a, b)),
             Operation::Audit => reader.audit().map(u64::from),
         }
     }

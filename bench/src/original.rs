@@ -56,8 +56,8 @@ macro_rules! original {
                 *out = $read::Index::get_range(self, a, b).unwrap();
             }
 
-            fn walk(&mut self, length: u64) -> u64 {
-                let values = self.iter(0, length).unwrap();
+            fn walk(&mut self, a: u64, b: u64) -> u64 {
+                let values = self.iter(a, b).unwrap();
                 values.fold(0, |sum, value| mix(sum, value.unwrap()))
             }
         }

@@ -38,7 +38,7 @@ impl Reader for &[u64] {
         out[..values.len()].copy_from_slice(values);
     }
 
-    fn walk(&mut self, _length: u64) -> u64 {
-        self.iter().fold(0, |sum, &value| mix(sum, value))
+    fn walk(&mut self, a: u64, b: u64) -> u64 {
+        self[a as usize..b as usize].iter().fold(0, |sum, &value| mix(sum, value))
     }
 }

@@ -87,13 +87,13 @@ impl Reader for View<'_> {
         View::get_range(self, a, b, out).unwrap();
     }
 
-    fn walk(&mut self, length: u64) -> u64 {
-        let values = self.iter(0, length).unwrap();
+    fn walk(&mut self, a: u64, b: u64) -> u64 {
+        let values = self.iter(a, b).unwrap();
         values.fold(0, |sum, value| mix(sum, value.unwrap()))
     }
 
-    fn steps(&mut self, length: u64) -> u64 {
-        let mut cursor = Cursor { next: 0, end: length };
+    fn steps(&mut self, a: u64, b: u64) -> u64 {
+        let mut cursor = Cursor { next: a, end: b };
         let mut sum = 0;
         while let Some(value) = self.next(&mut cursor).unwrap() {
             sum = mix(sum, value);

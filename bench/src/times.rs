@@ -22,8 +22,14 @@ pub const PLAIN: usize = 4;
 /// How many rounds each engine is timed for.
 pub const ROUNDS: usize = 21;
 
-/// Into how many parts the questions are cut: a short part is less often disturbed.
-const PARTS: usize = 10;
+/// Into how many parts a round is cut: a short part is less often disturbed.
+const PARTS: usize = 20;
+
+/// The least that a part takes of questions or values, so that reading the clock does not count.
+const LEAST: usize = 1_000;
+
+/// How many questions are asked where each takes milliseconds.
+const FEW: usize = 10;
 
 /// One engine, filled with an input's values, and the room that it writes ranges into.
 pub struct Filled {
@@ -44,13 +50,15 @@ impl Filled {
             _ => panic!("no engine {engine}"),
         };
         let mut out = vec![0; n];
-        index.round(Operation::Push, input, 0..0, &mut out);
+        index.round(Operation::Push, input, 0..n, &mut out);
         Filled { index, out }
     }
 
-    /// A round of an operation, or a part of one: its nanoseconds and its answers mixed, or none where the engine lacks it.
+    /// A part of a round of an operation: its nanoseconds and its answers mixed, or none where the engine lacks it.
     fn round(&mut self, operation: Operation, input: &Input, asked: Range<usize>) -> Option<(f64, u64)> {
-        self.index.empty_for(operation);
+        if asked.start == 0 {
+            self.index.empty_for(operation);
+        }
         let before = processor_time();
         let answers = self.index.round(operation, input, asked, &mut self.out)?;
         let time = processor_time() - before;
@@ -93,14 +101,15 @@ pub fn measure(operation: Operation, input: &Input, engines: &mut [Filled; ENGIN
     })
 }
 
-/// The parts of a round: where it asks questions, a tenth of them each.
+/// The parts of a round: of its questions or its values, unless it is one call.
 fn parts(operation: Operation, input: &Input, engine: &str) -> Vec<Range<usize>> {
-    let (asked, parts) = match operation {
+    let asked = match operation {
         // The original reads the whole segment for each search: it is asked the first few questions alone.
-        Operation::Bisect if engine.starts_with("original") && input.name == "one long segment" => (PARTS, PARTS),
-        operation if operation.asks() => (QUESTIONS, PARTS),
-        _ => (0, 1),
+        Operation::Bisect if engine.starts_with("original") && input.name == "one long segment" => FEW,
+        operation if operation.asks() => QUESTIONS,
+        _ => input.values.len(),
     };
+    let parts = if operation.whole() { 1 } else { (asked / LEAST).clamp(1, PARTS) };
     (0..parts).map(|part| part * asked / parts..(part + 1) * asked / parts).collect()
 }
 

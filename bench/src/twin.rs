@@ -341,8 +341,8 @@ impl Reader for (State, Tables<'_>) {
         get_range(&self.0, &self.1, a, b, out).unwrap();
     }
 
-    fn walk(&mut self, length: u64) -> u64 {
-        let mut cursor = Cursor { next: 0, end: length };
+    fn walk(&mut self, a: u64, b: u64) -> u64 {
+        let mut cursor = Cursor { next: a, end: b };
         let mut sum = 0;
         while let Some(value) = next(&mut cursor, &self.0, &self.1).unwrap() {
             sum = mix(sum, value);
