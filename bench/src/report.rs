@@ -63,13 +63,14 @@ const BESIDE_TWIN: [Goal; 6] = [
     (RangeOfAll, &[NAMES[3]], 0.8),
 ];
 
-const BESIDE_ORIGINAL: [Goal; 7] = [
+const BESIDE_ORIGINAL: [Goal; 8] = [
     (Push, &NAMES, 0.5),
     (Get, &NAMES, 0.5),
     (Bisect, &NAMES, 0.5),
     (Bisect, &[NAMES[2]], 0.01),
     (RangeOfAll, &NAMES, 0.5),
     (RangeOf16, &NAMES, 0.5),
+    (Step, &NAMES, 0.5),
     (Walk, &NAMES, 0.5),
 ];
 
