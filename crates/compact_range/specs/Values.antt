@@ -8,8 +8,7 @@ use lib.ListN.{getD, set}
 use Rattle.rules.specs.Words.{when, Answer, value, refused}
 use Rattle.rules.specs.Record.{Index}
 use Rattle.rules.specs.Push.{deltaAt}
-use Rattle.rules.specs.Reading.{halving, atMost, readIn, getRule}
-use Rattle.index_stream.specs.declared.Found.{Found}
+use Rattle.rules.specs.Reading.{readIn, getRule}
 
 -- the first n starts never fall
 abbrev pub Rises : List ℕ → ℕ → Type 0

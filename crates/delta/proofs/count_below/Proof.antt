@@ -10,10 +10,10 @@ use Rattle.delta.proofs.count_below.Statement.{statement}
 use Rattle.delta.proofs.count_below.Tie as tie
 
 abbrev Inv-loop : tie.InvT-loop
-Inv-loop bytes offset width n gap low₀ high₀ low high = Halfway (deltaBelow bytes offset width gap) n low high
+Inv-loop bytes from width n gap low₀ high₀ low high = Halfway (deltaBelow bytes from width gap) n low high
 
 abbrev μ-loop : tie.MeasureT-loop
-μ-loop bytes offset width n gap low₀ high₀ low high = high - low
+μ-loop bytes from width n gap low₀ high₀ low high = high - low
 
 loop-holds : tie.Need-loop-holds Inv-loop μ-loop
 loop-holds c = halfway-start _ _
