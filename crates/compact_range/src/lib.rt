@@ -15,7 +15,7 @@ ghost use Rattle.rules.specs.Reading.{reads, ranged, rangeRule};
 ghost use Rattle.rules.specs.Refusals.{answerOf};
 ghost use Rattle.laws.specs.Orders.{ordersOf};
 ghost use Rattle.index_stream.specs.Searches.{Finds};
-ghost use Rattle.compact_range.specs.Values.{Rises, isValue, ValuesIn, Sure, sums, Fits, inSegment, gets, puts, Based};
+ghost use Rattle.compact_range.specs.Values.{Rises, Known, isValue, ValuesIn, Sure, sums, Fits, inSegment, gets, puts, Based};
 
 // Puts the values at a..b into the output from its first entry on and answers how many; if any of them is damaged, none is written.
 pub fn get_range(
@@ -47,10 +47,34 @@ pub fn get_range(
         return Got::Refused(Refusal::OutputRoom);
     }
     let rising = rises(starts, s.segments, b - a);
-    if !range_reads(s, starts, bases, offsets, widths, bytes, rising, a, b) {
+    let known = look_ahead(starts, s.segments, a, b);
+    if !range_reads(
+        s,
+        starts,
+        bases,
+        offsets,
+        widths,
+        bytes,
+        rising,
+        known,
+        a,
+        b,
+    ) {
         return Got::Refused(Refusal::Damaged);
     }
-    range_write(s, starts, bases, offsets, widths, bytes, rising, a, b, out);
+    range_write(
+        s,
+        starts,
+        bases,
+        offsets,
+        widths,
+        bytes,
+        rising,
+        known,
+        a,
+        b,
+        out,
+    );
     Got::Value(b - a)
 }
 
@@ -74,11 +98,71 @@ fn rises(starts: &[u64], n: u64, positions: u64) -> bool
     }
 }
 
-// What the search for p finds, and up to where. Where the starts rise and segment k holds p, it needs no search.
-fn find(starts: &[u64], n: u64, rising: bool, k: u64, p: u64, limit: u64) -> Found
-    requires { ⌜ (n ≤ length (now starts)) × (p < limit) × (rising ≡ true → Rises (now starts) n) ⌝ }
+// What the search finds for the first two segments of a range: both passes use it, so that a short range is searched once.
+pub struct Ahead {
+    // The range's first position.
+    pub from: u64,
+    // What the search finds from there on, and up to where.
+    pub number: u64,
+    pub until: u64,
+    // What it finds from there on, and up to where.
+    pub next: u64,
+    pub end: u64,
+}
+
+// The search for the first two segments of a..b.
+fn look_ahead(starts: &[u64], n: u64, a: u64, b: u64) -> Ahead
+    requires { ⌜ (n ≤ length (now starts)) × (a ≤ b) ⌝ }
+    ensures { λ r. ⌜ Known (now (starts .entry)) n b r ⌝ }
+{
+    if b <= a {
+        return Ahead {
+            from: a,
+            number: 0,
+            until: a,
+            next: 0,
+            end: a,
+        };
+    }
+    let first = index_stream::bisect_right_until(starts, n, a, b);
+    let number = first.number;
+    let until = first.until;
+    if b <= until {
+        return Ahead {
+            from: a,
+            number,
+            until,
+            next: 0,
+            end: until,
+        };
+    }
+    let second = index_stream::bisect_right_until(starts, n, until, b);
+    Ahead {
+        from: a,
+        number,
+        until,
+        next: second.number,
+        end: second.until,
+    }
+}
+
+// What the search for p finds, and up to where. Where that is known, or the starts rise and segment k holds p, it needs no search.
+fn find(starts: &[u64], n: u64, rising: bool, known: Ahead, k: u64, p: u64, limit: u64) -> Found
+    requires { ⌜ (n ≤ length (now starts)) × (p < limit) × (rising ≡ true → Rises (now starts) n) × Known (now starts) n limit known ⌝ }
     ensures { λ r. ⌜ Finds (now (starts .entry)) n p limit r ⌝ }
 {
+    if (known.from <= p) & (p < known.until) {
+        return Found {
+            number: known.number,
+            until: known.until,
+        };
+    }
+    if (known.until <= p) & (p < known.end) {
+        return Found {
+            number: known.next,
+            until: known.end,
+        };
+    }
     if rising & (k < n) {
         let next = tables::entry_or(starts, n, k + 1, limit);
         if (starts[k as usize] <= p) & (p < next) {
@@ -100,10 +184,11 @@ fn range_reads(
     widths: &[u8],
     bytes: &[u8],
     rising: bool,
+    known: Ahead,
     a: u64,
     b: u64,
 ) -> bool
-    requires { ⌜ Facts (ordersOf (index s (now starts) (now bases) (now offsets) (now widths) (now bytes))) × (rising ≡ true → Rises (now starts) (s .segments)) × (a ≤ b) × (b ≤ s .length) ⌝ }
+    requires { ⌜ Facts (ordersOf (index s (now starts) (now bases) (now offsets) (now widths) (now bytes))) × (rising ≡ true → Rises (now starts) (s .segments)) × (a ≤ b) × (b ≤ s .length) × Known (now starts) (s .segments) b known ⌝ }
     ensures { λ r. ⌜ r ≡ isValue (reads (index s (now (starts .entry)) (now (bases .entry)) (now (offsets .entry)) (now (widths .entry)) (now (bytes .entry))) a (b - a)) ⌝ }
 {
     let segments = s.segments;
@@ -113,7 +198,7 @@ fn range_reads(
         if b <= p {
             break 'segments true;
         }
-        let found = find(starts, segments, rising, number, p, b);
+        let found = find(starts, segments, rising, known, number, p, b);
         number = found.number;
         let until = found.until;
         if number == 0 {
@@ -193,11 +278,12 @@ fn range_write(
     widths: &[u8],
     bytes: &[u8],
     rising: bool,
+    known: Ahead,
     a: u64,
     b: u64,
     out: &mut [u64],
 )
-    requires { ⌜ Facts (ordersOf (index s (now starts) (now bases) (now offsets) (now widths) (now bytes))) × (rising ≡ true → Rises (now starts) (s .segments)) × (a ≤ b) × (b ≤ s .length) × (b - a ≤ length (now out)) × (isValue (reads (index s (now starts) (now bases) (now offsets) (now widths) (now bytes)) a (b - a)) ≡ true) ⌝ }
+    requires { ⌜ Facts (ordersOf (index s (now starts) (now bases) (now offsets) (now widths) (now bytes))) × (rising ≡ true → Rises (now starts) (s .segments)) × (a ≤ b) × (b ≤ s .length) × (b - a ≤ length (now out)) × (isValue (reads (index s (now starts) (now bases) (now offsets) (now widths) (now bytes)) a (b - a)) ≡ true) × Known (now starts) (s .segments) b known ⌝ }
     ensures { λ _. ⌜ now (out .exit) ≡ puts (gets (index s (now (starts .entry)) (now (bases .entry)) (now (offsets .entry)) (now (widths .entry)) (now (bytes .entry))) a) 0 (b - a) (now (out .entry)) ⌝ }
 {
     let segments = s.segments;
@@ -207,7 +293,7 @@ fn range_write(
         if b <= p {
             break 'segments;
         }
-        let found = find(starts, segments, rising, number, p, b);
+        let found = find(starts, segments, rising, known, number, p, b);
         number = found.number;
         let until = found.until;
         fill_segment(

@@ -14,31 +14,47 @@ use Rattle.compact_range.proofs.find.Statement.{statement}
 use Rattle.compact_range.proofs.find.Tie as tie
 
 -- the starts rise, and segment k is there
-walks : (c : tie.Then1) → let a = c .before .before .args in Rises (now (a .starts)) (a .n) × (a .k < a .n)
+walks : (c : tie.Then3) → let a = c .before .before .before .before .before .before .before .before .args in Rises (now (a .starts)) (a .n) × (a .k < a .n)
 walks c =
-    let s = c .before .before in
-    let g = both (s .args .rising) (ltb (s .args .k) (s .args .n)) (c .if1 .taken) in
+    let s = c .before .before .before .before .before .before .before .before in
+    let g = both (s .args .rising) (ltb (s .args .k) (s .args .n)) (c .if3 .taken) in
     (s .pre .2 (g .0), ltb-true (s .args .k) (s .args .n) (g .1))
+
+returns : tie.Need-returns
+returns c =
+    let s = c .before .before .before .before in
+    let k = s .pre .3 in
+    let g = both (leb (s .args .known .from) (s .args .p)) (ltb (s .args .p) (s .args .known .until)) (c .if1 .taken) in
+    let here = leb-true (s .args .known .from) (s .args .p) (g .0) in
+    record { after = ltb-true _ _ (g .1); within = k .within; stays = λ u l h. k .first u (le-trans here l) h }
+
+returns-2 : tie.Need-returns-2
+returns-2 c =
+    let s = c .before .before .before .before .before .before .before in
+    let k = s .pre .3 in
+    let g = both (leb (s .args .known .until) (s .args .p)) (ltb (s .args .p) (s .args .known .end)) (c .if2 .taken) in
+    let here = leb-true (s .args .known .until) (s .args .p) (g .0) in
+    record { after = ltb-true _ _ (g .1); within = k .next-within; stays = λ u l h. k .next u (le-trans here l) h }
 
 add-entry-or : tie.Need-add-entry-or
 add-entry-or c = omega (arith, walks c .1)
 
-mul-if2 : tie.Need-mul-if2
-mul-if2 c = omega (arith, walks (c .before) .1)
+mul-if4 : tie.Need-mul-if4
+mul-if4 c = omega (arith, walks (c .before) .1)
 
-shared-slice-read-if2 : tie.Need-shared-slice-read-if2
-shared-slice-read-if2 c = omega (arith, walks (c .before .before) .1)
+shared-slice-read-if4 : tie.Need-shared-slice-read-if4
+shared-slice-read-if4 c = omega (arith, walks (c .before .before) .1)
 
-add-t17 : tie.Need-add-t17
-add-t17 c = omega (arith, walks (c .before .before .before) .1)
+add-t19 : tie.Need-add-t19
+add-t19 c = omega (arith, walks (c .before .before .before) .1)
 
-returns : tie.Need-returns
-returns c =
+returns-3 : tie.Need-returns-3
+returns-3 c =
     let n = c .before .before .before in
     let t = n .before in
-    let s = t .before .before in
+    let s = t .before .before .before .before .before .before .before .before in
     let starts = now (s .args .starts) in
-    let g = both (leb (getD starts (s .args .k) 0) (s .args .p)) (ltb (s .args .p) (n .entry-or .result)) (c .before .if2 .taken) in
+    let g = both (leb (getD starts (s .args .k) 0) (s .args .p)) (ltb (s .args .p) (n .entry-or .result)) (c .before .if4 .taken) in
     let here = leb-true (getD starts (s .args .k) 0) (s .args .p) (g .0) in
     let next = ltb-true (s .args .p) (n .entry-or .result) (g .1) in
     let r = c .least .ensures in
@@ -52,5 +68,5 @@ returns c =
 
 pub find-spec : {M : Type 1} → statement M
 find-spec = tie.close (tie.spec
-    add-entry-or (λ c κs. search needs) mul-if2 shared-slice-read-if2 add-t17 (λ c κs. search needs) returns
-    (λ c κs. search needs) (λ c. c .bisect-right-until .ensures .0))
+    returns returns-2 add-entry-or (λ c κs. search needs) mul-if4 shared-slice-read-if4 add-t19 (λ c κs. search needs)
+    returns-3 (λ c κs. search needs) (λ c. search needs))

@@ -38,31 +38,36 @@ sub-rises c = omega (arith, ok (c .before) .2)
 rises-requires : tie.Need-rises-requires
 rises-requires c κs = omega (arith, counts-facts _ (ok (c .before) .0))
 
+look-ahead-requires : tie.Need-look-ahead-requires
+look-ahead-requires c κs = let o = ok (c .before .before) in omega (arith, counts-facts _ (o .0), o .2)
+
 range-reads-requires : tie.Need-range-reads-requires
-range-reads-requires c κs = let o = ok (c .before .before) in (counts-facts _ (o .0), c .rises .ensures, o .2, o .1)
+range-reads-requires c κs =
+    let o = ok (c .before .before .before) in
+    (counts-facts _ (o .0), c .before .rises .ensures, o .2, o .1, c .look-ahead .ensures)
 
 returns-3 : tie.Need-returns-3
 returns-3 c =
-    let e = c .before .before .before in
+    let e = c .before .before .before .before in
     range-damaged _ _ _ _ (ok (e .before)) (e .if1 .left) (failed (c .before .range-reads .ensures) (c .if2 .taken))
 
 range-write-requires : tie.Need-range-write-requires
 range-write-requires c κs =
-    let r = c .before .before .before in
-    let e = r .before in
+    let k = c .before .before .before in
+    let e = k .before .before in
     let o = ok (e .before) in
-    (counts-facts _ (o .0), r .rises .ensures, o .2, o .1, e .if1 .left, passed (c .before .before .range-reads .ensures) (c .before .if2 .left))
+    (counts-facts _ (o .0), k .before .rises .ensures, o .2, o .1, e .if1 .left, passed (c .before .before .range-reads .ensures) (c .before .if2 .left), k .look-ahead .ensures)
 
-sub-t15 : tie.Need-sub-t15
-sub-t15 c = omega (arith, ok (c .before .before .before .before .before .before .before .before) .2)
+sub-t16 : tie.Need-sub-t16
+sub-t16 c = omega (arith, ok (c .before .before .before .before .before .before .before .before .before) .2)
 
 returns-4 : tie.Need-returns-4
 returns-4 c =
     let f = c .before .before .before .before in
-    let e = f .before .before .before in
+    let e = f .before .before .before .before in
     range-values _ _ _ _ (ok (e .before)) (e .if1 .left) (passed (f .before .range-reads .ensures) (f .if2 .left)) _ (c .before .before .range-write .ensures)
 
 pub get-range-spec : {M : Type 1} → statement M
 get-range-spec = tie.close (tie.spec
     (λ c κs. search needs) (λ c. search needs) returns (λ c. search needs) sub-if1 returns-2 sub-rises rises-requires
-    range-reads-requires returns-3 range-write-requires sub-t15 (λ c. search needs) returns-4)
+    look-ahead-requires range-reads-requires returns-3 range-write-requires sub-t16 (λ c. search needs) returns-4)

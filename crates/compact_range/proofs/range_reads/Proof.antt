@@ -17,18 +17,18 @@ use Rattle.compact_range.proofs.range_reads.Statement.{statement}
 use Rattle.compact_range.proofs.range_reads.Tie as tie
 
 abbrev Inv-deltas : tie.InvT-deltas
-Inv-deltas s starts bases offsets widths bytes rising a b segments p₀ number until k p =
+Inv-deltas s starts bases offsets widths bytes rising known a b segments p₀ number until k p =
     (p ≤ until) × (p₀ ≤ p) × Values (index s starts bases offsets widths bytes) a p
 
 abbrev μ-deltas : tie.MeasureT-deltas
-μ-deltas s starts bases offsets widths bytes rising a b segments p₀ number until k p = until - p
+μ-deltas s starts bases offsets widths bytes rising known a b segments p₀ number until k p = until - p
 
 abbrev Inv-segments : tie.InvT-segments
-Inv-segments s starts bases offsets widths bytes rising a b segments p₀ number₀ p number =
+Inv-segments s starts bases offsets widths bytes rising known a b segments p₀ number₀ p number =
     (a ≤ p) × (p ≤ b) × Values (index s starts bases offsets widths bytes) a p
 
 abbrev μ-segments : tie.MeasureT-segments
-μ-segments s starts bases offsets widths bytes rising a b segments p₀ number₀ p number = b - p
+μ-segments s starts bases offsets widths bytes rising known a b segments p₀ number₀ p number = b - p
 
 segments-holds : tie.Need-segments-holds Inv-deltas μ-deltas Inv-segments μ-segments
 segments-holds c = (omega arith, omega arith, λ q l h. absurd (omega arith))
@@ -58,7 +58,7 @@ segment c =
 
 find-requires :
     tie.Need-find-requires Inv-deltas μ-deltas Inv-segments μ-segments
-find-requires c κs = (omega arith, omega arith, start (c .before) .pre .1)
+find-requires c κs = (omega arith, omega arith, start (c .before) .pre .1, start (c .before) .pre .4)
 
 sub-k : tie.Need-sub-k Inv-deltas μ-deltas Inv-segments μ-segments
 sub-k c = omega (arith, c .if2 .left)

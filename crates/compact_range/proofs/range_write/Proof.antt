@@ -14,11 +14,11 @@ use Rattle.compact_range.proofs.range_write.Statement.{statement}
 use Rattle.compact_range.proofs.range_write.Tie as tie
 
 abbrev Inv-segments : tie.InvT-segments
-Inv-segments s starts bases offsets widths bytes rising a b out₀ segments p₀ number₀ out p number =
+Inv-segments s starts bases offsets widths bytes rising known a b out₀ segments p₀ number₀ out p number =
     (a ≤ p) × (p ≤ b) × (out ≡ puts (gets (index s starts bases offsets widths bytes) a) 0 (p - a) out₀) × (length out ≡ length out₀)
 
 abbrev μ-segments : tie.MeasureT-segments
-μ-segments s starts bases offsets widths bytes rising a b out₀ segments p₀ number₀ out p number = b - p
+μ-segments s starts bases offsets widths bytes rising known a b out₀ segments p₀ number₀ out p number = b - p
 
 segments-holds : tie.Need-segments-holds Inv-segments μ-segments
 segments-holds c =
@@ -43,7 +43,7 @@ good : (c : At) → Values (X c) (start c .args .a) (start c .args .b)
 good c q l h = let s = start c in reads-at (X c) (s .args .b - s .args .a) (s .args .a) (s .pre .5) q l (omega arith)
 
 find-requires : tie.Need-find-requires Inv-segments μ-segments
-find-requires c κs = (omega arith, omega arith, start (c .before) .pre .1)
+find-requires c κs = (omega arith, omega arith, start (c .before) .pre .1, start (c .before) .pre .6)
 
 -- past the search
 abbrev at : tie.After-find Inv-segments μ-segments → At
