@@ -10,7 +10,7 @@ use Rattle.rules.specs.declared.Verdict as code-verdict
 use Rattle.rules.specs.Words.{when-all}
 use Rattle.rules.specs.Record.{Index, segmentsOf, widthsOf, width, countsHold}
 use Rattle.rules.specs.Audit.{A, E, F, wellFormed, flaw, deltas, Rule, _by_, rulesOf, firstFlaw, auditFrom, auditRule, letterOf, verdictOf}
-use Rattle.audit.specs.Letters.{ruleB, ruleC, ruleD, ruleE, ruleF, rulesCtoF}
+use Rattle.audit_rules.specs.Letters.{ruleB, ruleC, ruleD, ruleE, ruleF, rulesCtoF}
 use Rattle.laws.proofs.Tests.{taken}
 
 -- no rule is left

@@ -7,9 +7,9 @@ use borrow.Author.Tests.{ltb-true, ltb-false}
 use Rattle.rules.specs.Record.{Index, index, width}
 use Rattle.rules.specs.Audit.{rulesOf, firstFlaw}
 use Rattle.laws.proofs.Answers.{width-there, width-absent}
-use Rattle.audit.specs.Letters.{rulesCtoF}
+use Rattle.audit_rules.specs.Letters.{rulesCtoF}
 use Rattle.laws.proofs.Tests.{passed, failed}
-use Rattle.audit.proofs.Letters.{b-room}
+use Rattle.audit_rules.proofs.Letters.{b-room}
 use Rattle.audit.proofs.Order.{flaw-here, past-b, without-flaw, without-none}
 use borrow.Author.Needs.{needs}
 use Rattle.audit.proofs.audit_segment.Statement.{statement}

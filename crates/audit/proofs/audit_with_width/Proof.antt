@@ -10,8 +10,8 @@ use Rattle.rules.specs.Words.{Facts, when-all}
 use Rattle.rules.specs.Record.{Index, index, widthTests}
 use Rattle.rules.specs.Audit.{firstFlaw}
 use Rattle.laws.proofs.Tests.{facts-of, passed, failed}
-use Rattle.audit.specs.Letters.{ruleF, rulesCtoF}
-use Rattle.audit.proofs.Letters.{c-same, e-room, f-same}
+use Rattle.audit_rules.specs.Letters.{ruleF, rulesCtoF}
+use Rattle.audit_rules.proofs.Letters.{c-same, e-room, f-same}
 use Rattle.audit.proofs.Order.{flaw-none, flaw-next, flaw-here}
 use borrow.Author.Needs.{needs}
 use Rattle.audit.proofs.audit_with_width.Statement.{statement}

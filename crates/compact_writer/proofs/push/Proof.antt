@@ -2,7 +2,8 @@
 -- What search needs closes, such as that a lent table keeps its length, stands in the last term alone.
 use native.Mathlib.Omega.{arith}
 use mathlib.Core.Path.{refl}
-use Rattle.compact_writer.proofs.Plans.{bounds, push-at, same}
+use Rattle.push_plan.proofs.Bounds.{bounds}
+use Rattle.compact_writer.proofs.Outcomes.{push-at, same}
 use borrow.Author.Needs.{needs}
 use Rattle.compact_writer.proofs.push.Statement.{statement}
 use Rattle.compact_writer.proofs.push.Tie as tie
