@@ -8,8 +8,8 @@ use Rattle.rules.specs.Reading.{deltaBelow, deltaSearch}
 use Rattle.laws.proofs.Tests.{taken, left}
 use Rattle.laws.proofs.Halving.{halving-edge}
 use borrow.Author.Needs.{needs}
-use Rattle.compact_bisect.proofs.delta_search.Statement.{statement}
-use Rattle.compact_bisect.proofs.delta_search.Tie as tie
+use Rattle.segment_bisect.proofs.delta_search.Statement.{statement}
+use Rattle.segment_bisect.proofs.delta_search.Tie as tie
 
 count-below-requires : tie.Need-count-below-requires
 count-below-requires c κs =

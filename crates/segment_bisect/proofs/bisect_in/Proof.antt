@@ -5,8 +5,8 @@ use borrow.Author.Tests.{lt-ltb, le-ltb, le-leb, lt-leb, eq-eqb, ne-eqb}
 use Rattle.rules.specs.Reading.{bisectIn}
 use Rattle.laws.proofs.Answers.{width-there, width-absent}
 use borrow.Author.Needs.{needs}
-use Rattle.compact_bisect.proofs.bisect_in.Statement.{statement}
-use Rattle.compact_bisect.proofs.bisect_in.Tie as tie
+use Rattle.segment_bisect.proofs.bisect_in.Statement.{statement}
+use Rattle.segment_bisect.proofs.bisect_in.Tie as tie
 
 returns : tie.Need-returns
 unfolding bisectIn
