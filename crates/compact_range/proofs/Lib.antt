@@ -1,5 +1,5 @@
-pub mod Rising
 pub mod Deciding
+pub mod Given
 pub mod Writing
 pub mod Whole
 pub mod Unsorted

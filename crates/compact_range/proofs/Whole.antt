@@ -17,8 +17,9 @@ use Rattle.laws.proofs.Tests.{false-not-true, when-all-case}
 use Rattle.tables.specs.declared.Checked.{Checked}
 use Rattle.tables.specs.Range.{checkedOf, checkRule}
 use Rattle.tables.proofs.Range as check
-use Rattle.compact_range.specs.Values.{isValue, valueOf, gets, puts}
-use Rattle.compact_range.proofs.Deciding.{reads-at}
+use Rattle.compact_range.specs.Values.{isValue}
+use Rattle.compact_range.specs.Puts.{valueOf, gets, puts}
+use Rattle.compact_range.proofs.Given.{reads-at}
 use Rattle.compact_range.proofs.Writing.{puts-join}
 
 -- the first n numbers of f

@@ -5,7 +5,7 @@ use native.Mathlib.Omega.{arith}
 use lib.ListN.{length, length-set}
 use denote.Ref.{now}
 use Rattle.laws.proofs.Bytes.{delta-room}
-use Rattle.compact_range.specs.Values.{puts, sums}
+use Rattle.compact_range.specs.Puts.{puts, sums}
 use Rattle.compact_range.proofs.Writing.{puts-more, puts-none, next-delta}
 use Rattle.compact_range.proofs.fill_deltas.Statement.{statement}
 use Rattle.compact_range.proofs.fill_deltas.Tie as tie

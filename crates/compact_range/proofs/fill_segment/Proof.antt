@@ -8,7 +8,7 @@ use borrow.Author.Needs.{needs}
 use Rattle.rules.specs.Record.{Index, index}
 use Rattle.laws.proofs.Tests.{false-not-true}
 use Rattle.laws.proofs.Answers.{width-there, width-absent}
-use Rattle.compact_range.specs.Values.{inSegment, puts}
+use Rattle.compact_range.specs.Puts.{inSegment, puts}
 use Rattle.compact_range.proofs.Writing.{RunOf, run-of, based-next, based-puts, segment-puts}
 use Rattle.compact_range.proofs.fill_segment.Statement.{statement}
 use Rattle.compact_range.proofs.fill_segment.Tie as tie

@@ -7,8 +7,10 @@ use denote.Ref.{now}
 use Rattle.rules.specs.Words.{Facts}
 use Rattle.rules.specs.Record.{Index, index}
 use Rattle.laws.specs.Orders.{ordersOf}
-use Rattle.compact_range.specs.Values.{Values, gets, puts}
-use Rattle.compact_range.proofs.Deciding.{found-in, found-some, values-in, reads-at}
+use Rattle.compact_range.specs.Values.{Values}
+use Rattle.compact_range.proofs.Deciding.{found-in}
+use Rattle.compact_range.specs.Puts.{gets, puts}
+use Rattle.compact_range.proofs.Given.{reads-at, found-some, values-in}
 use Rattle.compact_range.proofs.Writing.{puts-none, puts-length, range-puts}
 use Rattle.compact_range.proofs.range_write.Statement.{statement}
 use Rattle.compact_range.proofs.range_write.Tie as tie
