@@ -8,8 +8,8 @@ use Rattle.rules.specs.Reading.{halving, atMost, getRule, reads}
 use Rattle.laws.specs.Orders.{ordersOf}
 use Rattle.laws.proofs.Tests.{by-test, false-not-true}
 use Rattle.index_stream.specs.Searches.{Stays}
-use Rattle.compact_range.specs.Values.{isValue, ValuesIn, Values}
-use Rattle.compact_range.proofs.Deciding.{get-none, get-here, reads-bad}
+use Rattle.range_reads.specs.Values.{isValue, ValuesIn, Values}
+use Rattle.range_reads.proofs.Deciding.{get-none, get-here, reads-bad}
 
 -- each read of a range that is a value is one
 pub reads-at : (x : Index) (n a : ℕ) → isValue (reads x a n) ≡ true → Values x a (a + n)

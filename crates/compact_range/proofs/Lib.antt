@@ -1,4 +1,3 @@
-pub mod Deciding
 pub mod Given
 pub mod Writing
 pub mod Whole

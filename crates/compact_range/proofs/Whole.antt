@@ -17,7 +17,7 @@ use Rattle.laws.proofs.Tests.{false-not-true, when-all-case}
 use Rattle.tables.specs.declared.Checked.{Checked}
 use Rattle.tables.specs.Range.{checkedOf, checkRule}
 use Rattle.tables.proofs.Range as check
-use Rattle.compact_range.specs.Values.{isValue}
+use Rattle.range_reads.specs.Values.{isValue}
 use Rattle.compact_range.specs.Puts.{valueOf, gets, puts}
 use Rattle.compact_range.proofs.Given.{reads-at}
 use Rattle.compact_range.proofs.Writing.{puts-join}

@@ -7,8 +7,8 @@ use denote.Ref.{now}
 use Rattle.rules.specs.Words.{Facts}
 use Rattle.rules.specs.Record.{Index, index}
 use Rattle.laws.specs.Orders.{ordersOf}
-use Rattle.compact_range.specs.Values.{Values}
-use Rattle.compact_range.proofs.Deciding.{found-in}
+use Rattle.range_reads.specs.Values.{Values}
+use Rattle.range_reads.proofs.Deciding.{found-in}
 use Rattle.compact_range.specs.Puts.{gets, puts}
 use Rattle.compact_range.proofs.Given.{reads-at, found-some, values-in}
 use Rattle.compact_range.proofs.Writing.{puts-none, puts-length, range-puts}

@@ -18,7 +18,7 @@ use Rattle.laws.proofs.Counts.{facts-counts}
 use Rattle.laws.proofs.Halving.{halving-edge}
 use Rattle.laws.proofs.Bytes.{delta-below, room-fits}
 use Rattle.index_stream.specs.Searches.{Stays}
-use Rattle.compact_range.specs.Values.{isValue, Values, Sure}
+use Rattle.range_reads.specs.Values.{isValue, Values, Sure}
 
 -- what makes the reads of segment k sure up to `until`, whatever its deltas are: a width w within m to 8, room for every delta, and
 -- a base that any delta of w bytes may be added to
