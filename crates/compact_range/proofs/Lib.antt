@@ -1,4 +1,2 @@
-pub mod Given
-pub mod Writing
 pub mod Whole
 pub mod Unsorted

@@ -18,7 +18,7 @@ use Rattle.laws.proofs.Tests.{by-test, false-not-true, when-all-case}
 use Rattle.index_stream.specs.Searches.{Stays}
 use Rattle.range_reads.specs.Values.{isValue, ValuesIn}
 use Rattle.range_reads.proofs.Deciding.{get-here}
-use Rattle.compact_range.specs.Puts.{valueOf, sums, Fits, inSegment, gets, puts, Based}
+use Rattle.range_write.specs.Puts.{valueOf, sums, Fits, inSegment, gets, puts, Based}
 
 -- nothing put
 pub puts-none : (f : ℕ → ℕ) (from : ℕ) (out : List ℕ) → out ≡ puts f from 0 out
