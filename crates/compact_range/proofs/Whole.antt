@@ -17,9 +17,10 @@ use Rattle.laws.proofs.Tests.{false-not-true, when-all-case}
 use Rattle.tables.specs.declared.Checked.{Checked}
 use Rattle.tables.specs.Range.{checkedOf, checkRule}
 use Rattle.tables.proofs.Range as check
-use Rattle.compact_range.specs.Values.{isValue, valueOf, gets, puts}
-use Rattle.compact_range.proofs.Deciding.{reads-at}
-use Rattle.compact_range.proofs.Writing.{puts-join}
+use Rattle.range_reads.specs.Values.{isValue}
+use Rattle.range_write.specs.Puts.{valueOf, gets, puts}
+use Rattle.range_write.proofs.Given.{reads-at}
+use Rattle.range_write.proofs.Writing.{puts-join}
 
 -- the first n numbers of f
 unfoldable firsts : (ℕ → ℕ) → ℕ → List ℕ

@@ -7,11 +7,11 @@ use lib.ListN.{getD}
 use denote.Ref.{now}
 use borrow.Author.Tests.{ltb-true, leb-true}
 use Rattle.laws.proofs.Tests.{both}
-use Rattle.compact_range.specs.Values.{Rises}
-use Rattle.compact_range.proofs.Rising.{rises-finds, below-next}
+use Rattle.range_find.specs.Starts.{Rises}
+use Rattle.range_find.proofs.Rising.{rises-finds, below-next}
 use borrow.Author.Needs.{needs}
-use Rattle.compact_range.proofs.find.Statement.{statement}
-use Rattle.compact_range.proofs.find.Tie as tie
+use Rattle.range_find.proofs.find.Statement.{statement}
+use Rattle.range_find.proofs.find.Tie as tie
 
 -- the starts rise, and segment k is there
 walks : (c : tie.Then3) → let a = c .before .before .before .before .before .before .before .before .args in Rises (now (a .starts)) (a .n) × (a .k < a .n)

@@ -5,10 +5,10 @@ use native.Mathlib.Omega.{arith}
 use lib.ListN.{length, length-set}
 use denote.Ref.{now}
 use Rattle.laws.proofs.Bytes.{delta-room}
-use Rattle.compact_range.specs.Values.{puts, sums}
-use Rattle.compact_range.proofs.Writing.{puts-more, puts-none, next-delta}
-use Rattle.compact_range.proofs.fill_deltas.Statement.{statement}
-use Rattle.compact_range.proofs.fill_deltas.Tie as tie
+use Rattle.range_write.specs.Puts.{puts, sums}
+use Rattle.range_write.proofs.Writing.{puts-more, puts-none, next-delta}
+use Rattle.range_write.proofs.fill_deltas.Statement.{statement}
+use Rattle.range_write.proofs.fill_deltas.Tie as tie
 
 abbrev Inv-deltas : tie.InvT-deltas
 Inv-deltas bytes base at width n out₀ from i₀ here₀ out i here =

@@ -2,7 +2,7 @@
 use Prim.Native.Nat.{ℕ, zero, suc, _+_, _-_, _*_, _/_, _^_, _≤_, _<_}
 use mathlib.Core.Bool.{true, false}
 use mathlib.Core.List.{List}
-use mathlib.Core.Path.{_≡_, refl, sym, ap, _∙_}
+use mathlib.Core.Path.{_≡_, refl, ap, _∙_}
 use native.Mathlib.Omega.{arith}
 use native.Mathlib.Nat.{le-trans}
 use lib.Dec.{ltb, eqb}
@@ -18,7 +18,7 @@ use Rattle.laws.proofs.Counts.{facts-counts}
 use Rattle.laws.proofs.Halving.{halving-edge}
 use Rattle.laws.proofs.Bytes.{delta-below, room-fits}
 use Rattle.index_stream.specs.Searches.{Stays}
-use Rattle.compact_range.specs.Values.{isValue, ValuesIn, Values, Sure}
+use Rattle.range_reads.specs.Values.{isValue, Values, Sure}
 
 -- what makes the reads of segment k sure up to `until`, whatever its deltas are: a width w within m to 8, room for every delta, and
 -- a base that any delta of w bytes may be added to
@@ -88,10 +88,6 @@ module _ (x : Index) (number p : ℕ) (ok : Facts (ordersOf x)) (l : p < lengthO
   unfolding getRule startsUpTo
   get-none z = rw (facts-counts x ok, lt-ltb p (lengthOf x) l, ← e, z, getRule)
 
-  -- where the read is a value, its search found some
-  pub found-some : isValue (getRule x p) ≡ true → number ≡ 0 → ⊥
-  found-some g z = false-not-true (isValue (getRule x p)) g (ap isValue (get-none z))
-
 -- a search that found the same segment from p up to `until`
 module _ (x : Index) (number p until : ℕ) (ok : Facts (ordersOf x)) (long : until ≤ lengthOf x) (some : number ≡ 0 → ⊥)
     (stays : Stays (x .starts) (segmentsOf x) p number until) where
@@ -105,10 +101,6 @@ module _ (x : Index) (number p until : ℕ) (ok : Facts (ordersOf x)) (long : un
       by-test (ltb q p)
       (λ t. good q l (ltb-true q p t))
       (λ t. let g = ltb-false q p t in let to = sure .to in ap isValue (get-here q g (omega arith)) ∙ sure .reads q g u)
-
-  -- values by get are values in the segment
-  pub values-in : Values x p until → ValuesIn x (number - 1) p until
-  values-in good q l u = ap isValue (sym (get-here q l u)) ∙ good q l u
 
 -- values up to p, and at p
 pub values-more : (x : Index) (a p : ℕ) → Values x a p → isValue (getRule x p) ≡ true → Values x a (p + 1)
@@ -149,7 +141,3 @@ reads-bad x (suc n) a q h l e =
     by-test (eqb q a)
     (λ t. let z = eqb-true q a t in before-bad (getRule x a) (reads x (suc a) n) (rw z at e))
     (λ t. let z = eqb-false q a t in before-rest (getRule x a) (reads x (suc a) n) (reads-bad x n (suc a) q (omega arith) (omega arith) e))
-
--- so each read of a range that is a value is one
-pub reads-at : (x : Index) (n a : ℕ) → isValue (reads x a n) ≡ true → Values x a (a + n)
-reads-at x n a e q h l = by-test (isValue (getRule x q)) (λ t. t) (λ t. false-not-true (isValue (reads x a n)) e (reads-bad x n a q h l t))

@@ -11,7 +11,7 @@ use Rattle.rules.specs.Words.{when}
 use Rattle.rules.specs.Reading.{halving, atMost}
 use Rattle.laws.proofs.Tests.{by-test}
 use Rattle.laws.proofs.Halving.{halving-is}
-use Rattle.compact_range.specs.Values.{Rises}
+use Rattle.range_find.specs.Starts.{Rises}
 
 -- one start more, not below the last
 pub rises-more : (starts : List ℕ) (i : ℕ) → 1 ≤ i → Rises starts i → getD starts (i - 1) 0 ≤ getD starts i 0 → Rises starts (i + 1)

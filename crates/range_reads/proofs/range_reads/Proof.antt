@@ -11,10 +11,10 @@ use Rattle.rules.specs.Record.{Index, index}
 use Rattle.rules.specs.Reading.{getRule}
 use Rattle.rules.specs.Refusals.{answerOf}
 use Rattle.laws.specs.Orders.{ordersOf}
-use Rattle.compact_range.specs.Values.{isValue, Values}
-use Rattle.compact_range.proofs.Deciding.{found-in, get-none, get-here, values-on, values-more, reads-good, reads-bad}
-use Rattle.compact_range.proofs.range_reads.Statement.{statement}
-use Rattle.compact_range.proofs.range_reads.Tie as tie
+use Rattle.range_reads.specs.Values.{isValue, Values}
+use Rattle.range_reads.proofs.Deciding.{found-in, get-none, get-here, values-on, values-more, reads-good, reads-bad}
+use Rattle.range_reads.proofs.range_reads.Statement.{statement}
+use Rattle.range_reads.proofs.range_reads.Tie as tie
 
 abbrev Inv-deltas : tie.InvT-deltas
 Inv-deltas s starts bases offsets widths bytes rising known a b segments p₀ number until k p =

@@ -8,10 +8,10 @@ use borrow.Author.Needs.{needs}
 use Rattle.rules.specs.Record.{Index, index}
 use Rattle.laws.proofs.Tests.{false-not-true}
 use Rattle.laws.proofs.Answers.{width-there, width-absent}
-use Rattle.compact_range.specs.Values.{inSegment, puts}
-use Rattle.compact_range.proofs.Writing.{RunOf, run-of, based-next, based-puts, segment-puts}
-use Rattle.compact_range.proofs.fill_segment.Statement.{statement}
-use Rattle.compact_range.proofs.fill_segment.Tie as tie
+use Rattle.range_write.specs.Puts.{inSegment, puts}
+use Rattle.range_write.proofs.Writing.{RunOf, run-of, based-next, based-puts, segment-puts}
+use Rattle.range_write.proofs.fill_segment.Statement.{statement}
+use Rattle.range_write.proofs.fill_segment.Tie as tie
 
 abbrev start : tie.After-put-base → tie.Start
 start c = c .before .before .before .before .before .before .before .before .before .before .before

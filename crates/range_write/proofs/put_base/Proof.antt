@@ -1,8 +1,8 @@
 -- Each return gives the next position and what was put, by whether p is the start.
 use borrow.Author.Tests.{eq-eqb, ne-eqb}
 use borrow.Author.Needs.{needs}
-use Rattle.compact_range.proofs.put_base.Statement.{statement}
-use Rattle.compact_range.proofs.put_base.Tie as tie
+use Rattle.range_write.proofs.put_base.Statement.{statement}
+use Rattle.range_write.proofs.put_base.Tie as tie
 
 returns : tie.Need-returns
 returns c = record { next = rw (eq-eqb _ _ (c .if1 .taken)); put = rw (eq-eqb _ _ (c .if1 .taken)) }

@@ -16,8 +16,9 @@ use Rattle.rules.specs.Reading.{deltaRead, readIn, getRule}
 use Rattle.laws.specs.Orders.{ordersOf}
 use Rattle.laws.proofs.Tests.{by-test, false-not-true, when-all-case}
 use Rattle.index_stream.specs.Searches.{Stays}
-use Rattle.compact_range.specs.Values.{isValue, valueOf, ValuesIn, sums, Fits, inSegment, gets, puts, Based}
-use Rattle.compact_range.proofs.Deciding.{get-here}
+use Rattle.range_reads.specs.Values.{isValue, ValuesIn}
+use Rattle.range_reads.proofs.Deciding.{get-here}
+use Rattle.range_write.specs.Puts.{valueOf, sums, Fits, inSegment, gets, puts, Based}
 
 -- nothing put
 pub puts-none : (f : ℕ → ℕ) (from : ℕ) (out : List ℕ) → out ≡ puts f from 0 out

@@ -7,11 +7,13 @@ use denote.Ref.{now}
 use Rattle.rules.specs.Words.{Facts}
 use Rattle.rules.specs.Record.{Index, index}
 use Rattle.laws.specs.Orders.{ordersOf}
-use Rattle.compact_range.specs.Values.{Values, gets, puts}
-use Rattle.compact_range.proofs.Deciding.{found-in, found-some, values-in, reads-at}
-use Rattle.compact_range.proofs.Writing.{puts-none, puts-length, range-puts}
-use Rattle.compact_range.proofs.range_write.Statement.{statement}
-use Rattle.compact_range.proofs.range_write.Tie as tie
+use Rattle.range_reads.specs.Values.{Values}
+use Rattle.range_reads.proofs.Deciding.{found-in}
+use Rattle.range_write.specs.Puts.{gets, puts}
+use Rattle.range_write.proofs.Given.{reads-at, found-some, values-in}
+use Rattle.range_write.proofs.Writing.{puts-none, puts-length, range-puts}
+use Rattle.range_write.proofs.range_write.Statement.{statement}
+use Rattle.range_write.proofs.range_write.Tie as tie
 
 abbrev Inv-segments : tie.InvT-segments
 Inv-segments s starts bases offsets widths bytes rising known a b out₀ segments p₀ number₀ out p number =

@@ -5,10 +5,10 @@ use denote.Ref.{now}
 use borrow.Author.Tests.{leb-true}
 use Rattle.laws.proofs.Answers.{width-there}
 use Rattle.laws.proofs.Tests.{passed}
-use Rattle.compact_range.proofs.Deciding.{sure-none, sure-all}
+use Rattle.range_reads.proofs.Deciding.{sure-none, sure-all}
 use borrow.Author.Needs.{needs}
-use Rattle.compact_range.proofs.sure_until.Statement.{statement}
-use Rattle.compact_range.proofs.sure_until.Tie as tie
+use Rattle.range_reads.proofs.sure_until.Statement.{statement}
+use Rattle.range_reads.proofs.sure_until.Tie as tie
 
 returns-7 : tie.Need-returns-7
 returns-7 c =

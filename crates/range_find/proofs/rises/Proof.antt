@@ -4,10 +4,10 @@ use mathlib.Core.Path.{_≡_, refl}
 use native.Mathlib.Omega.{arith}
 use denote.Ref.{now}
 use Rattle.laws.proofs.Tests.{false-not-true}
-use Rattle.compact_range.specs.Values.{Rises}
-use Rattle.compact_range.proofs.Rising.{rises-more}
-use Rattle.compact_range.proofs.rises.Statement.{statement}
-use Rattle.compact_range.proofs.rises.Tie as tie
+use Rattle.range_find.specs.Starts.{Rises}
+use Rattle.range_find.proofs.Rising.{rises-more}
+use Rattle.range_find.proofs.rises.Statement.{statement}
+use Rattle.range_find.proofs.rises.Tie as tie
 
 abbrev Inv-loop : tie.InvT-loop
 Inv-loop starts n positions i₀ i = (1 ≤ i) × Rises starts i
