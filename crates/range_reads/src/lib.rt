@@ -49,7 +49,7 @@ pub fn range_reads(
             if until <= p {
                 break 'deltas;
             }
-            let Got::Value(_) = compact_reader::read_in(
+            let Got::Value(_) = segment_reader::read_in(
                 s,
                 starts,
                 bases,

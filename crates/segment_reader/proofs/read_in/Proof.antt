@@ -4,8 +4,8 @@ use borrow.Author.Tests.{lt-ltb, le-ltb, eq-eqb, ne-eqb}
 use Rattle.rules.specs.Reading.{readIn}
 use Rattle.laws.proofs.Answers.{width-there, width-absent}
 use borrow.Author.Needs.{needs}
-use Rattle.compact_reader.proofs.read_in.Statement.{statement}
-use Rattle.compact_reader.proofs.read_in.Tie as tie
+use Rattle.segment_reader.proofs.read_in.Statement.{statement}
+use Rattle.segment_reader.proofs.read_in.Tie as tie
 
 returns : tie.Need-returns
 unfolding readIn

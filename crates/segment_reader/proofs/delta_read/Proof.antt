@@ -6,8 +6,8 @@ use Rattle.rules.specs.Reading.{deltaRead}
 use Rattle.laws.proofs.Tests.{taken, left}
 use Rattle.laws.proofs.Bytes.{room-fits, room-short}
 use borrow.Author.Needs.{needs}
-use Rattle.compact_reader.proofs.delta_read.Statement.{statement}
-use Rattle.compact_reader.proofs.delta_read.Tie as tie
+use Rattle.segment_reader.proofs.delta_read.Statement.{statement}
+use Rattle.segment_reader.proofs.delta_read.Tie as tie
 
 returns-4 : tie.Need-returns-4
 unfolding deltaRead
