@@ -6,7 +6,7 @@ use Rattle.rules.specs.Record.{countsHold}
 use Rattle.rules.specs.Push.{segmentPlan, firstPlan, nextPlan, planOf, pushRule, lengthRule, sizeRule}
 use Rattle.rules.specs.Refusals.{widthAt}
 use Rattle.dump.specs.Feeding.{byteRule, feedRule}
-use Rattle.dump_text.specs.Report.{places, decimal, endLine, segmentLine, reportLine, linesFrom, report}
+use Rattle.dump_put.specs.Report.{places, decimal, endLine, segmentLine, reportLine, linesFrom, report}
 use Rattle.dump_text.specs.Worked.{w9Fed, w9Output}
 
 -- the report on W9's values

@@ -3,7 +3,7 @@ use Prim.Native.Nat.{ℕ}
 use mathlib.Core.List.{List, [], _∷_, _++_}
 use lib.ListN.{replicate}
 use Rattle.dump.specs.Feeding.{Fed, fedOf, nothing, feedRule, bytesOf}
-use Rattle.dump_text.specs.Text.{text}
+use Rattle.dump_put.specs.Text.{text}
 
 -- what the program holds before its first read: 1,024 entries per table and 16,384 data bytes, all 0
 abbrev pub cleared : Fed

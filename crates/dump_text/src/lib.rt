@@ -1,16 +1,7 @@
 // The lines of the dump's report, put into a lent buffer.
 use dump::Carried;
-use rules::State;
-use rules::Width;
-ghost use mathlib.Core.Path.{_≡_};
-ghost use mathlib.Core.List.{_++_};
-ghost use Prim.Native.Nat.{_+_, _≤_, _<_};
-ghost use lib.ListN.{length, take};
-ghost use Rattle.rules.specs.Words.{Facts};
-ghost use Rattle.rules.specs.Record.{index};
-ghost use Rattle.laws.specs.Orders.{ordersOf};
 ghost use Rattle.dump.specs.Feeding.{fedOf};
-ghost use Rattle.dump_text.specs.Report.{decimal, newline, endLine, widthText, segmentLine, reportLine, Begins};
+ghost use Rattle.dump_put.specs.Report.{reportLine, Begins};
 
 // Puts line number i of the report at the start of `out` and answers how many bytes it has, 0 where there is no such line.
 pub fn line(
@@ -30,106 +21,20 @@ pub fn line(
         return 0;
     }
     if i == 0 {
-        return end_line(carried, out);
+        return dump_lines::end_line(carried, out);
     }
     if i == 1 {
-        return number_line(b"length ", s.length, out);
+        return dump_put::number_line(b"length ", s.length, out);
     }
     if i == 2 {
-        return number_line(b"segments ", s.segments, out);
+        return dump_put::number_line(b"segments ", s.segments, out);
     }
     if i == 3 {
-        return number_line(b"bytes ", 24 * s.segments + s.widths + s.used, out);
+        return dump_put::number_line(b"bytes ", 24 * s.segments + s.widths + s.used, out);
     }
     let k = i - 4;
     if k < s.segments {
-        return segment_line(s, starts, bases, offsets, widths, bytes, k, out);
+        return dump_lines::segment_line(s, starts, bases, offsets, widths, bytes, k, out);
     }
     0
-}
-
-// The line that says how the input ended: a refusal, or a tail of bytes that make no value; otherwise none.
-fn end_line(carried: Carried, out: &mut [u8]) -> u64
-    requires { ⌜ 160 ≤ length (now out) ⌝ }
-    ensures { λ r. ⌜ Begins r (now (out .exit)) (endLine (carried .state .length) (carried .count) (carried .refusal)) ⌝ }
-{
-    let s = carried.state;
-    if carried.refusal != 0 {
-        let at = put_field(out, 0, b"refused ", s.length);
-        let end = put_field(out, at, b" number ", carried.refusal);
-        return put(out, end, b"\n");
-    }
-    if carried.count != 0 {
-        return number_line(b"tail ", carried.count, out);
-    }
-    0
-}
-
-// The line of a label and a number.
-fn number_line(label: &[u8], n: u64, out: &mut [u8]) -> u64
-    requires { ⌜ length (now label) + 21 ≤ length (now out) ⌝ }
-    ensures { λ r. ⌜ Begins r (now (out .exit)) (now (label .entry) ++ decimal n ++ newline) ⌝ }
-{
-    let end = put_field(out, 0, label, n);
-    put(out, end, b"\n")
-}
-
-// The line of segment k.
-fn segment_line(
-    s: State,
-    starts: &[u64],
-    bases: &[u64],
-    offsets: &[u64],
-    widths: &[u8],
-    bytes: &[u8],
-    k: u64,
-    out: &mut [u8],
-) -> u64
-    requires { ⌜ Facts (ordersOf (index s (now starts) (now bases) (now offsets) (now widths) (now bytes))) × (k < s .segments) × (160 ≤ length (now out)) ⌝ }
-    ensures { λ r. ⌜ Begins r (now (out .exit)) (segmentLine (index s (now (starts .entry)) (now (bases .entry)) (now (offsets .entry)) (now (widths .entry)) (now (bytes .entry))) k) ⌝ }
-{
-    let start = starts[k as usize];
-    let base = bases[k as usize];
-    let offset = offsets[k as usize];
-    let after_number = put_field(out, 0, b"segment ", k);
-    let after_start = put_field(out, after_number, b" start ", start);
-    let after_base = put_field(out, after_start, b" base ", base);
-    let after_offset = put_field(out, after_base, b" offset ", offset);
-    let end = put_width(out, after_offset, tables::width_of(s, widths, k));
-    put(out, end, b"\n")
-}
-
-// Puts a segment's width after the first `at` bytes, or that it has none, and answers where it ends.
-fn put_width(out: &mut [u8], at: u64, width: Width) -> u64
-    requires { ⌜ at + 27 ≤ length (now out) ⌝ }
-    ensures { λ r. ⌜ (r ≤ at + 27) × (take r (now (out .exit)) ≡ take at (now (out .entry)) ++ widthText width) ⌝ }
-{
-    let Width::Of(w) = width else {
-        return put(out, at, b" width none");
-    };
-    put_field(out, at, b" width ", w as u64)
-}
-
-// Puts a label and a number after the first `at` bytes, and answers where they end.
-fn put_field(out: &mut [u8], at: u64, label: &[u8], n: u64) -> u64
-    requires { ⌜ at + length (now label) + 20 ≤ length (now out) ⌝ }
-    ensures { λ r. ⌜ (r ≤ at + length (now (label .entry)) + 20) × (take r (now (out .exit)) ≡ take at (now (out .entry)) ++ (now (label .entry) ++ decimal n)) ⌝ }
-{
-    let from = put(out, at, label);
-    let mut digits = [0u8; 20];
-    let k = io::decimal(n, &mut digits);
-    put(out, from, &digits[..k])
-}
-
-// Puts some bytes after the first `at`, and answers where they end.
-fn put(out: &mut [u8], at: u64, part: &[u8]) -> u64
-    requires { ⌜ at + length (now part) ≤ length (now out) ⌝ }
-    ensures { λ r. ⌜ (r ≡ at + length (now (part .entry))) × (take r (now (out .exit)) ≡ take at (now (out .entry)) ++ now (part .entry)) ⌝ }
-{
-    let mut i: u64 = 0;
-    while i < part.len() as u64 {
-        out[(at + i) as usize] = part[i as usize];
-        i += 1;
-    }
-    at + i
 }

@@ -4,7 +4,7 @@ use native.Mathlib.Omega.{arith}
 use borrow.Author.Tests.{eq-eqb, ne-eqb, lt-ltb, le-ltb}
 use Rattle.rules.specs.Push.{lengthRule, sizeRule}
 use Rattle.laws.proofs.Counts.{counts-facts}
-use Rattle.dump_text.specs.Report.{reportLine}
+use Rattle.dump_put.specs.Report.{reportLine}
 use Rattle.laws.proofs.Tests.{passed, failed}
 use borrow.Author.Needs.{needs}
 use Rattle.dump_text.proofs.line.Statement.{statement}

@@ -7,7 +7,7 @@ use lib.Dec.{ltb, lit<}
 use borrow.Author.Tests.{lt-ltb, le-ltb, ltb-true, ltb-false}
 use Rattle.laws.proofs.Tests.{by-test}
 use Rattle.io.specs.Digits.{digits, Fewest}
-use Rattle.dump_text.specs.Report.{places, decimal}
+use Rattle.dump_put.specs.Report.{places, decimal}
 
 -- a number that k digits hold and fewer do not has k places
 pub places-fewest : (most n k : ℕ) → k ≤ suc most → Fewest 10 1 n k → places most n ≡ k

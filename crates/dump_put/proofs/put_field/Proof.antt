@@ -1,13 +1,13 @@
 -- The label, then the digits; a 64-bit number has at most 20.
 use denote.Ref.{now}
 use lib.ListN.{take}
-use Rattle.dump_text.proofs.Lines.{field-put}
-use Rattle.dump_text.proofs.Decimal.{fewest-most, decimal-of}
+use Rattle.dump_put.proofs.Lines.{field-put}
+use Rattle.dump_put.proofs.Decimal.{fewest-most, decimal-of}
 use mathlib.Core.Path.{_∙_}
 use native.Mathlib.Omega.{arith}
 use borrow.Author.Needs.{needs}
-use Rattle.dump_text.proofs.put_field.Statement.{statement}
-use Rattle.dump_text.proofs.put_field.Tie as tie
+use Rattle.dump_put.proofs.put_field.Statement.{statement}
+use Rattle.dump_put.proofs.put_field.Tie as tie
 
 put-requires-2 : tie.Need-put-requires-2
 put-requires-2 c κs =

@@ -1,10 +1,10 @@
 -- The texts follow one another as in the rule, 137 bytes at most; each number is the table's entry.
 use mathlib.Core.Path.{_∙_}
 use native.Mathlib.Omega.{arith}
-use Rattle.dump_text.specs.Report.{segmentLine}
+use Rattle.dump_put.specs.Report.{segmentLine}
 use borrow.Author.Needs.{needs}
-use Rattle.dump_text.proofs.segment_line.Statement.{statement}
-use Rattle.dump_text.proofs.segment_line.Tie as tie
+use Rattle.dump_lines.proofs.segment_line.Statement.{statement}
+use Rattle.dump_lines.proofs.segment_line.Tie as tie
 
 width-of-requires : tie.Need-width-of-requires
 width-of-requires c κs = omega (arith, c .before .before .before .before .before .before .before .before .before .before .before .before .before .before .before .before .before .before .before .before .before .before .before .before .before .before .before .before .before .before .pre .0)

@@ -2,10 +2,10 @@
 use mathlib.Core.Path.{ap, _∙_}
 use native.Mathlib.Omega.{arith}
 use mathlib.Core.List.{_++_}
-use Rattle.dump_text.specs.Report.{newline}
+use Rattle.dump_put.specs.Report.{newline}
 use borrow.Author.Needs.{needs}
-use Rattle.dump_text.proofs.number_line.Statement.{statement}
-use Rattle.dump_text.proofs.number_line.Tie as tie
+use Rattle.dump_put.proofs.number_line.Statement.{statement}
+use Rattle.dump_put.proofs.number_line.Tie as tie
 
 returns : tie.Need-returns
 returns c =

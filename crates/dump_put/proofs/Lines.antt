@@ -5,7 +5,7 @@ use mathlib.Core.Path.{_≡_, _∙_}
 use native.Mathlib.Nat.{add-suc}
 use lib.ListN.{length, take, getD, set}
 use lib.Seq.{take-suc, take-suc-set}
-use Rattle.dump_text.specs.Report.{decimal}
+use Rattle.dump_put.specs.Report.{decimal}
 
 -- one byte more of a part is put
 pub put-step : (part out₀ out : List ℕ) (at i : ℕ) → at + i < length out → i < length part → take (at + i) out ≡ take at out₀ ++ take i part

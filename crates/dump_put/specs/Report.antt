@@ -13,7 +13,7 @@ use Rattle.rules.specs.Record.{Index, lengthOf, segmentsOf, start, base, offset
 use Rattle.rules.specs.Push.{lengthRule, sizeRule}
 use Rattle.rules.specs.Refusals.{widthAt}
 use Rattle.dump.specs.Feeding.{Fed}
-use Rattle.dump_text.specs.Text.{text}
+use Rattle.dump_put.specs.Text.{text}
 
 -- how many decimal digits n has, if that is at most `most` + 1
 unfoldable pub places : ℕ → ℕ → ℕ

@@ -2,10 +2,10 @@
 use mathlib.Core.Path.{_∙_}
 use native.Mathlib.Omega.{arith}
 use borrow.Author.Tests.{eq-eqb, ne-eqb}
-use Rattle.dump_text.specs.Report.{endLine}
+use Rattle.dump_put.specs.Report.{endLine}
 use borrow.Author.Needs.{needs}
-use Rattle.dump_text.proofs.end_line.Statement.{statement}
-use Rattle.dump_text.proofs.end_line.Tie as tie
+use Rattle.dump_lines.proofs.end_line.Statement.{statement}
+use Rattle.dump_lines.proofs.end_line.Tie as tie
 
 returns : tie.Need-returns
 unfolding endLine

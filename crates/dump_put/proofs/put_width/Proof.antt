@@ -1,8 +1,8 @@
 -- By the width, or its absence.
 use native.Mathlib.Omega.{arith}
 use borrow.Author.Needs.{needs}
-use Rattle.dump_text.proofs.put_width.Statement.{statement}
-use Rattle.dump_text.proofs.put_width.Tie as tie
+use Rattle.dump_put.proofs.put_width.Statement.{statement}
+use Rattle.dump_put.proofs.put_width.Tie as tie
 
 returns : tie.Need-returns
 returns c =

@@ -9,9 +9,9 @@ use native.Mathlib.Numerals.{add-one}
 use denote.Ref.{now}
 use lib.ListN.{length, take, length-set}
 use lib.Seq.{take-all}
-use Rattle.dump_text.proofs.Lines.{put-step}
-use Rattle.dump_text.proofs.put.Statement.{statement}
-use Rattle.dump_text.proofs.put.Tie as tie
+use Rattle.dump_put.proofs.Lines.{put-step}
+use Rattle.dump_put.proofs.put.Statement.{statement}
+use Rattle.dump_put.proofs.put.Tie as tie
 
 abbrev Inv-loop : tie.InvT-loop
 Inv-loop out₀ at part i₀ out i =
