@@ -1,4 +1,4 @@
-// get_range on any tables: at most one search a segment, and the whole range decided before its first value is written.
+// get_range on any tables: what the search finds ahead, then one pass that decides and one that writes.
 use rules::Got;
 use rules::Refusal;
 use rules::State;
@@ -22,16 +22,8 @@ pub fn get_range(
 ) -> Got
     ensures { λ r. ⌜ ranged (answerOf r) (now (out .exit)) ≡ rangeRule (index s (now (starts .entry)) (now (bases .entry)) (now (offsets .entry)) (now (widths .entry)) (now (bytes .entry))) a b (now (out .entry)) ⌝ }
 {
-    if let Checked::Refused(e) = tables::check_range(
-        s,
-        starts,
-        bases,
-        offsets,
-        widths,
-        bytes,
-        a,
-        b,
-    ) {
+    let checked = tables::check_range(s, starts, bases, offsets, widths, bytes, a, b);
+    if let Checked::Refused(e) = checked {
         return Got::Refused(e);
     }
     if (out.len() as u64) < b - a {

@@ -14,7 +14,7 @@ use Rattle.compact_range.proofs.get_range.Statement.{statement}
 use Rattle.compact_range.proofs.get_range.Tie as tie
 
 returns : tie.Need-returns
-returns c = range-refused _ _ _ _ (c .before .before .before .check-range .ensures) (c .before .e .given .1)
+returns c = range-refused _ _ _ _ (c .before .before .before .check-range .ensures) (c .before .checked .given .1)
 
 abbrev start : tie.After-enum-told → tie.Start
 start c = c .before .before .before .before .before .before .before .before .before

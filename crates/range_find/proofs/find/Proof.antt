@@ -1,4 +1,4 @@
--- The walk's segment is the search's, since the starts never fall; otherwise the search says it itself.
+-- What is known ahead is what the search finds; so is the walk's segment, since the starts never fall; otherwise the search says it itself.
 use Prim.Native.Nat.{_+_, _<_}
 use native.Mathlib.Omega.{arith}
 use native.Mathlib.Nat.{le-trans}
@@ -8,6 +8,7 @@ use denote.Ref.{now}
 use borrow.Author.Tests.{ltb-true, leb-true}
 use Rattle.laws.proofs.Tests.{both}
 use Rattle.range_find.specs.Starts.{Rises}
+use Rattle.range_find.proofs.Known.{known-finds}
 use Rattle.range_find.proofs.Rising.{rises-finds, below-next}
 use borrow.Author.Needs.{needs}
 use Rattle.range_find.proofs.find.Statement.{statement}
@@ -21,20 +22,10 @@ walks c =
     (s .pre .2 (g .0), ltb-true (s .args .k) (s .args .n) (g .1))
 
 returns : tie.Need-returns
-returns c =
-    let s = c .before .before .before .before in
-    let k = s .pre .3 in
-    let g = both (leb (s .args .known .from) (s .args .p)) (ltb (s .args .p) (s .args .known .until)) (c .if1 .taken) in
-    let here = leb-true (s .args .known .from) (s .args .p) (g .0) in
-    record { after = ltb-true _ _ (g .1); within = k .within; stays = λ u l h. k .first u (le-trans here l) h }
+returns c = let k = c .before .before .before .before .pre .3 in known-finds _ _ _ _ _ _ (k .first) (k .within) (c .if1 .taken)
 
 returns-2 : tie.Need-returns-2
-returns-2 c =
-    let s = c .before .before .before .before .before .before .before in
-    let k = s .pre .3 in
-    let g = both (leb (s .args .known .until) (s .args .p)) (ltb (s .args .p) (s .args .known .end)) (c .if2 .taken) in
-    let here = leb-true (s .args .known .until) (s .args .p) (g .0) in
-    record { after = ltb-true _ _ (g .1); within = k .next-within; stays = λ u l h. k .next u (le-trans here l) h }
+returns-2 c = let k = c .before .before .before .before .before .before .before .pre .3 in known-finds _ _ _ _ _ _ (k .next) (k .next-within) (c .if2 .taken)
 
 add-entry-or : tie.Need-add-entry-or
 add-entry-or c = omega (arith, walks c .1)
