@@ -10,7 +10,7 @@ ghost use Rattle.crossing.specs.Told.{stateAt, told, telling};
 pub extern "C" fn rotlantern_open(minimum: u64, state: &mut [u64; 5]) -> u64
     ensures { λ r. ⌜ told r (stateAt (now (state .exit))) ≡ telling (openRule minimum) (stateAt (now (state .entry))) ⌝ }
 {
-    crossing::tell_opened(compact_writer::compact_index(minimum), state)
+    crossing::tell_opened(compact_index::compact_index(minimum), state)
 }
 
 // Opens an index with the default minimum width; this is never refused.
@@ -18,7 +18,7 @@ pub extern "C" fn rotlantern_open(minimum: u64, state: &mut [u64; 5]) -> u64
 pub extern "C" fn rotlantern_open_default(state: &mut [u64; 5]) -> u64
     ensures { λ r. ⌜ told r (stateAt (now (state .exit))) ≡ told 0 (freshState defaultMinimum) ⌝ }
 {
-    crossing::store_state(state, compact_writer::default_index());
+    crossing::store_state(state, compact_index::default_index());
     0
 }
 

@@ -21,7 +21,7 @@ pub fn start() -> Carried
     ensures { λ r. ⌜ r ≡ nothing ⌝ }
 {
     Carried {
-        state: compact_writer::default_index(),
+        state: compact_index::default_index(),
         count: 0,
         partial: 0,
         refusal: 0,

@@ -60,7 +60,7 @@ pub fn replay(
     let a = call.a;
     let b = call.b;
     if kind == 1 {
-        return opened(state, cursor, compact_writer::compact_index(a));
+        return opened(state, cursor, compact_index::compact_index(a));
     }
     if kind == 2 {
         let answer = compact_writer::push(state, starts, bases, offsets, widths, bytes, a);

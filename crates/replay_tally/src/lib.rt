@@ -65,7 +65,7 @@ pub fn start() -> Progress
         first,
     };
     Progress {
-        state: compact_writer::default_index(),
+        state: compact_index::default_index(),
         cursor: Cursor { next: 0, end: 0 },
         tally,
     }

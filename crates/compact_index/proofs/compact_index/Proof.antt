@@ -5,8 +5,8 @@ use Rattle.rules.specs.Words.{value}
 use Rattle.rules.specs.Record.{openRule}
 use Rattle.laws.proofs.Tests.{taken, left}
 use borrow.Author.Needs.{needs}
-use Rattle.compact_writer.proofs.compact_index.Statement.{statement}
-use Rattle.compact_writer.proofs.compact_index.Tie as tie
+use Rattle.compact_index.proofs.compact_index.Statement.{statement}
+use Rattle.compact_index.proofs.compact_index.Tie as tie
 
 returns : tie.Need-returns
 unfolding openRule

@@ -1,7 +1,7 @@
 -- The code's constant is the rule's.
 use borrow.Author.Needs.{needs}
-use Rattle.compact_writer.proofs.default_index.Statement.{statement}
-use Rattle.compact_writer.proofs.default_index.Tie as tie
+use Rattle.compact_index.proofs.default_index.Statement.{statement}
+use Rattle.compact_index.proofs.default_index.Tie as tie
 
 returns : tie.Need-returns
 returns c = c .fresh .ensures

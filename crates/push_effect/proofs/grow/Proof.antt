@@ -1,8 +1,8 @@
 -- The rule's record, field by field.
 use mathlib.Core.Path.{refl}
 use borrow.Author.Needs.{needs}
-use Rattle.compact_writer.proofs.grow.Statement.{statement}
-use Rattle.compact_writer.proofs.grow.Tie as tie
+use Rattle.push_effect.proofs.grow.Statement.{statement}
+use Rattle.push_effect.proofs.grow.Tie as tie
 
 returns : tie.Need-returns
 returns c = refl

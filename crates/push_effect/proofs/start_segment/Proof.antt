@@ -2,8 +2,8 @@
 use mathlib.Core.Path.{refl, ap}
 use borrow.Author.Needs.{needs}
 use Rattle.rules.specs.declared.Pushed.{Pushed}
-use Rattle.compact_writer.proofs.start_segment.Statement.{statement}
-use Rattle.compact_writer.proofs.start_segment.Tie as tie
+use Rattle.push_effect.proofs.start_segment.Statement.{statement}
+use Rattle.push_effect.proofs.start_segment.Tie as tie
 
 returns : tie.Need-returns
 returns c =

@@ -7,8 +7,8 @@ use Rattle.rules.specs.declared.Pushed.{Pushed}
 use Rattle.laws.proofs.Bytes.{length-bytes}
 use Rattle.delta.proofs.Storing.{stored-from}
 use borrow.Author.Needs.{needs}
-use Rattle.compact_writer.proofs.push_delta.Statement.{statement}
-use Rattle.compact_writer.proofs.push_delta.Tie as tie
+use Rattle.push_effect.proofs.push_delta.Statement.{statement}
+use Rattle.push_effect.proofs.push_delta.Tie as tie
 
 returns : tie.Need-returns
 returns c =
