@@ -191,12 +191,13 @@ pub fn push(state: &mut State, tables: TablesMut, value: u64) -> Result<u64, Ref
     Ok(position)
 }
 
-/// Calls a reading function of the border with the state, the five tables and what follows.
+/// Calls a reading function of the border with what stands first, if anything, the state, the five tables and what follows.
 macro_rules! call {
-    ($name:ident, $view:expr, $($rest:expr),*) => {{
+    ($name:ident $(($first:expr))?, $view:expr, $($rest:expr),*) => {{
         let t = $view.tables;
         Refusal::check(unsafe {
             sys::$name(
+                $($first,)?
                 &$view.state,
                 t.starts.as_ptr(),
                 t.starts.len(),
@@ -287,25 +288,7 @@ impl<'a> View<'a> {
     #[inline]
     pub fn next(&self, cursor: &mut Cursor) -> Result<Option<u64>, Refusal> {
         let (mut value, mut done) = (0, 0);
-        let t = self.tables;
-        Refusal::check(unsafe {
-            sys::rotlantern_next(
-                cursor,
-                &self.state,
-                t.starts.as_ptr(),
-                t.starts.len(),
-                t.bases.as_ptr(),
-                t.bases.len(),
-                t.offsets.as_ptr(),
-                t.offsets.len(),
-                t.widths.as_ptr(),
-                t.widths.len(),
-                t.data.as_ptr(),
-                t.data.len(),
-                &mut value,
-                &mut done,
-            )
-        })?;
+        call!(rotlantern_next(cursor), self, &mut value, &mut done)?;
         Ok((done == 0).then_some(value))
     }
 
