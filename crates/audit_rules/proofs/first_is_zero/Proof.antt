@@ -1,7 +1,6 @@
 -- The rule's own test, decided by the branch.
 use borrow.Author.Tests.{ne-eqb}
 use Rattle.rules.specs.Words.{holds}
-use borrow.Author.Tests.{ne-eqb}
 use Rattle.audit_rules.proofs.first_is_zero.Statement.{statement}
 use Rattle.audit_rules.proofs.first_is_zero.Tie as tie
 
