@@ -1,4 +1,5 @@
 // A walk whose cursor the caller lends: each step moves it in place.
+#![tactic(auto)]
 ghost use Rattle.std.specs.Prelude.{◌≡◌};
 ghost use Rattle.rules.specs.Record.{index};
 ghost use Rattle.rules.specs.Reading.{step_rule};

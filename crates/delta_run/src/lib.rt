@@ -1,4 +1,5 @@
 // A delta run: one segment's packed bytes with its base and width, and what it answers.
+#![tactic(auto)]
 ghost use Rattle.std.specs.Prelude.{◌≡◌};
 ghost use Rattle.rules.specs.Reading.{run_count_rule, run_value_rule};
 ghost use Rattle.rules.specs.Refusals.{answer_of};
@@ -6,7 +7,7 @@ ghost use Rattle.rules.specs.Refusals.{answer_of};
 use rules::{Got, Refusal};
 
 // One segment's packed bytes, its base and its width.
-#[derive(Drop)]
+#[derive(Clone, Copy)]
 pub struct DeltaRun<'a> {
     // The deltas, each of `width` bytes, least significant byte first.
     pub bytes: &'a [u8],

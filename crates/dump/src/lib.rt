@@ -1,11 +1,12 @@
 // Feeding an index with 8-byte little-endian values from an input that comes in pieces of any length.
+#![tactic(auto)]
 ghost use Rattle.std.specs.Prelude.{◌≡◌};
 ghost use Rattle.dump.specs.Feeding.{fed_of, nothing, with_byte, carried_after, byte_rule, feed_rule};
 
 use rules::{Pushed, State};
 
 // What is carried from one piece of the input to the next.
-#[derive(Drop)]
+#[derive(Clone, Copy)]
 pub struct Carried {
     // The index that the values went into.
     pub state: State,

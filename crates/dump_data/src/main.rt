@@ -1,4 +1,5 @@
 // The dump program on a delta of 8 bytes more than the 16,384 data bytes hold.
+#![tactic(auto)]
 fn main() {
     let mut piece = [0u8; 4096];
     dump_io::run(&mut piece);

@@ -1,4 +1,5 @@
 // The dump program: reads values from standard input into an index, and writes what the index holds.
+#![tactic(auto)]
 ghost use Rattle.std.specs.Prelude.{◌<◌};
 
 use dump::Carried;

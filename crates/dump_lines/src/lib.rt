@@ -1,4 +1,5 @@
 // The lines that say how the input ended and what a segment is.
+#![tactic(auto)]
 ghost use Rattle.std.specs.Prelude.{◌≤◌, ◌<◌, length};
 ghost use Rattle.rules.specs.Words.{Facts};
 ghost use Rattle.rules.specs.Record.{index};

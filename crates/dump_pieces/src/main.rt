@@ -1,4 +1,5 @@
 // The dump program on the input of dump_long, read 13 bytes at a time: values straddle the reads.
+#![tactic(auto)]
 fn main() {
     let mut piece = [0u8; 13];
     dump_io::run(&mut piece);

@@ -1,4 +1,5 @@
 // Whole-table searches over a lent table of u64, each the halving rule with its own test.
+#![tactic(auto)]
 ghost use Rattle.std.specs.Prelude.{◌≡◌, ◌≤◌, ◌<◌, min, length};
 ghost use Rattle.rules.specs.Reading.{halving, at_most};
 ghost use Rattle.index_stream.specs.Searches.{below, turned, Finds};
@@ -44,7 +45,7 @@ pub fn bisect_left(table: &[u64], n: u64, v: u64) -> u64
 }
 
 // What a search found, and up to where it finds the same.
-#[derive(Drop)]
+#[derive(Clone, Copy)]
 pub struct Found {
     pub number: u64,
     pub until: u64,

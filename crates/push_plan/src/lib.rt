@@ -1,4 +1,5 @@
 // The plan of a push: what it is to do, made of numbers alone, before anything is written.
+#![tactic(auto)]
 ghost use Rattle.std.specs.Prelude.{◌≡◌, true, false, ◌≤◌};
 ghost use Rattle.rules.specs.Words.{Facts, when_all};
 ghost use Rattle.rules.specs.Record.{index, data_limit};
@@ -9,7 +10,7 @@ ghost use Rattle.push_plan.specs.Plans.{planned};
 use rules::{Refusal, Room, State, Width};
 
 // What a push is to do.
-#[derive(Drop)]
+#[derive(Clone, Copy)]
 pub enum Plan {
     // Refuse it.
     Refuse(Refusal),

@@ -1,4 +1,5 @@
 // Which segment each position of a range is in, with few searches.
+#![tactic(auto)]
 ghost use Rattle.std.specs.Prelude.{◌≡◌, true, ◌≤◌, ◌<◌, length};
 ghost use Rattle.index_stream.specs.Searches.{Finds};
 ghost use Rattle.range_find.specs.Starts.{Rises, Known};
@@ -26,7 +27,7 @@ pub fn rises(starts: &[u64], n: u64, positions: u64) -> bool
 }
 
 // What the search finds for the first two segments of a range: both passes use it, so that a short range is searched once.
-#[derive(Drop)]
+#[derive(Clone, Copy)]
 pub struct Ahead {
     // The range's first position.
     pub from: u64,

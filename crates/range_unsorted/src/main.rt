@@ -1,4 +1,5 @@
 // get_range over starts that are not sorted, 0 2 1 1: main's proof shows that it gives 100 and 400 and leaves the rest of the output.
+#![tactic(auto)]
 use rules::State;
 
 fn main() {

@@ -1,4 +1,5 @@
 // Replaying recorded calls of an index: each is made by the proved code, and its answer is held to the recorded one.
+#![tactic(auto)]
 ghost use Rattle.std.specs.Prelude.{◌≡◌};
 ghost use Rattle.rules.specs.Record.{index};
 ghost use Rattle.rules.specs.Refusals.{number_of, opened_of, answer_of, target_of, walk_of, step_of};
@@ -7,7 +8,7 @@ ghost use Rattle.replay.specs.Replaying.{reply, number_reply, span_reply, after_
 use rules::{Cursor, Got, Opened, Pushed, Refusal, State, Step, Target, Walk};
 
 // A recorded call: its kind and its numbers.
-#[derive(Drop)]
+#[derive(Clone, Copy)]
 pub struct Call {
     pub kind: u64,
     pub a: u64,
@@ -16,7 +17,7 @@ pub struct Call {
 }
 
 // An answer in a record's numbers.
-#[derive(Drop)]
+#[derive(Clone, Copy)]
 pub struct Reply {
     // 1 for an answer, 0 for a refusal or an entry that is not there, 2 for a call of no known kind.
     pub answered: u64,
@@ -27,7 +28,7 @@ pub struct Reply {
 }
 
 // What a call leaves beside the tables and the output, and what it answers.
-#[derive(Drop)]
+#[derive(Clone, Copy)]
 pub struct Replayed {
     // The index that the next call is made on.
     pub state: State,

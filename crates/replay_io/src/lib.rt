@@ -1,4 +1,5 @@
 // The replay program: reads records from standard input, replays them, and writes what it counted.
+#![tactic(auto)]
 ghost use Rattle.std.specs.Prelude.{◌<◌};
 
 use libc::{STDIN_FILENO, STDOUT_FILENO};

@@ -1,4 +1,5 @@
 // A list of records replayed: each record's call is made, and what it answers is held to the recorded answer.
+#![tactic(auto)]
 ghost use Rattle.std.specs.Prelude.{◌≡◌, ◌<◌};
 ghost use Rattle.replay.specs.Replaying.{reply};
 ghost use Rattle.rules.specs.Record.{fresh_state};
@@ -9,7 +10,7 @@ use replay::{Call, Reply};
 use rules::{Cursor, State};
 
 // A record whose answer differs: its number, counted from 1 and 0 for none, its kind, and both answers.
-#[derive(Drop)]
+#[derive(Clone, Copy)]
 pub struct Difference {
     pub number: u64,
     pub kind: u64,
@@ -18,7 +19,7 @@ pub struct Difference {
 }
 
 // What has been counted.
-#[derive(Drop)]
+#[derive(Clone, Copy)]
 pub struct Tally {
     // The records.
     pub records: u64,
@@ -33,7 +34,7 @@ pub struct Tally {
 }
 
 // What is carried from one record to the next.
-#[derive(Drop)]
+#[derive(Clone, Copy)]
 pub struct Progress {
     // The index that the calls are made on.
     pub state: State,

@@ -1,4 +1,5 @@
 // What every entry point asks first: the counts rule, a range's bounds, a segment's width, where a segment begins.
+#![tactic(auto)]
 ghost use Rattle.std.specs.Prelude.{◌≡◌, true, false, ◌≤◌, ltb, length, get_or};
 ghost use Rattle.rules.specs.Words.{when, when_all};
 ghost use Rattle.rules.specs.Record.{index, room_of, state_tests, room_tests, counts_hold};
@@ -82,7 +83,7 @@ fn room_holds(
 }
 
 // What a check answers: good, or why not.
-#[derive(Drop)]
+#[derive(Clone, Copy)]
 pub enum Checked {
     Good,
     Refused(Refusal),

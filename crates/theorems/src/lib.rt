@@ -1,1 +1,2 @@
 // Every theorem over the rules that people sign on, collected in proofs/Theorems.antt. No function.
+#![tactic(auto)]

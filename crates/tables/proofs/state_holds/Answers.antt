@@ -8,16 +8,14 @@ use borrow.Author.Tests.{eqb-true, eq-eqb, leb-true, le-leb}
 use Rattle.rules.specs.Record.{state_tests}
 use Rattle.laws.proofs.Tests.{same_test, both, taken, left, facts_of}
 use Rattle.laws.proofs.Counts.{state_orders_lem}
-use borrow.Author.Rules.{rules}
-use Rattle.tables.proofs.state_holds.Statement.{statement}
-use Rattle.tables.proofs.state_holds.Tie as tie
+use Rattle.tables.proofs.state_holds.Goals as goal
 
-returns : tie.Need-returns
-returns c = sym (left _ _ _ (λ f. omega arith))
+pub returns-then-minimum-lt1 : goal.returns-then-minimum-lt1
+returns-then-minimum-lt1 c = sym (left _ _ _ (λ f. omega arith))
 
-returns-5 : tie.Need-returns-5
-returns-5 c =
-    let s = c.before.before.before.before.before.args.s in
+pub returns-then-segments-eq0 : goal.returns-then-segments-eq0
+returns-then-segments-eq0 c =
+    let s = c.args.s in
     same_test _ _
     (λ t.
     let b = both (eqb s.length 0 && eqb s.widths 0) (eqb s.used 0) t in
@@ -28,9 +26,9 @@ returns-5 c =
     let o = state_orders_lem s (facts_of (state_tests s) t) in
     rw (eq-eqb s.length 0 (omega arith), eq-eqb s.widths 0 (omega arith), eq-eqb s.used 0 (omega arith)))
 
-returns-6 : tie.Need-returns-6
-returns-6 c =
-    let s = c.before.before.before.before.before.args.s in
+pub returns : goal.returns
+returns c =
+    let s = c.args.s in
     same_test _ _
     (λ t.
     let c3 = both (leb (s.segments - 1) s.widths && leb s.widths s.segments && leb s.segments s.length) (leb s.length (s.segments + s.used)) t in
@@ -43,7 +41,11 @@ returns-6 c =
     let o = state_orders_lem s (facts_of (state_tests s) t) in
     rw (le-leb (s.segments - 1) s.widths (omega arith), le-leb s.widths s.segments (omega arith), le-leb s.segments s.length (omega arith), le-leb s.length (s.segments + s.used) (omega arith)))
 
-pub state-holds-spec : {M : Type 1} → statement M
-state-holds-spec = tie.close (tie.spec
-    returns (λ c. sym (left _ _ _ (λ f. omega arith))) (λ c. sym (left _ _ _ (λ f. omega arith)))
-    (λ c. sym (left _ _ _ (λ f. omega arith))) returns-5 (λ c. search rules) (λ c. search rules) returns-6)
+pub returns-then-minimum-gt8 : goal.returns-then-minimum-gt8
+returns-then-minimum-gt8 c = sym (left _ _ _ (λ f. omega arith))
+
+pub returns-then-segments-gt-SEGMENT_LIMIT : goal.returns-then-segments-gt-SEGMENT_LIMIT
+returns-then-segments-gt-SEGMENT_LIMIT c = sym (left _ _ _ (λ f. omega arith))
+
+pub returns-then-used-gt-DATA_LIMIT : goal.returns-then-used-gt-DATA_LIMIT
+returns-then-used-gt-DATA_LIMIT c = sym (left _ _ _ (λ f. omega arith))
