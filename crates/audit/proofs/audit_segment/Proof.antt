@@ -37,7 +37,7 @@ past c w e =
 none : (c : tie.After-enum-told) → let a = c.before.before.before.before.before.before.before.before.before.before.before.args in a.s.widths ≤ a.k
 none c =
     let a = c.before.before.before.before.before.before.before.before.before.before.before.args in
-    ltb-false a.k a.s.widths (width_absent _ _ _ (sym c.before.before.width_of_lem.ensures ∙ c.enum_told.given.1))
+    ltb-false a.k a.s.widths (width_absent _ _ _ (sym c.before.before.width_of.ensures ∙ c.enum_told.given.1))
 
 rule-e-without-width-requires : tie.Need-rule-e-without-width-requires
 rule-e-without-width-requires c κs = omega (arith, none c, c.before.before.before.before.before.before.before.before.before.before.before.requires)
@@ -61,12 +61,12 @@ returns-3 c =
 audit-with-width-requires : tie.Need-audit-with-width-requires
 audit-with-width-requires c κs =
     let s = c.before.before.before.before.before.before.before.before.before.before.before.before in
-    let w = width_there _ _ _ _ (sym c.before.before.before.width_of_lem.ensures ∙ c.before.w.given.1) in
+    let w = width_there _ _ _ _ (sym c.before.before.before.width_of.ensures ∙ c.before.w.given.1) in
     omega (arith, ltb-true s.args.k s.args.s.widths w.0, s.requires)
 
 returns-4 : tie.Need-returns-4
 returns-4 c =
-    let w = width_there _ _ _ _ (sym c.before.before.before.before.width_of_lem.ensures ∙ c.before.before.w.given.1) in
+    let w = width_there _ _ _ _ (sym c.before.before.before.before.width_of.ensures ∙ c.before.before.w.given.1) in
     c.audit-with-width.ensures ∙ past c.before.before.before.before.before _ (sym w.1)
 
 pub audit-segment-spec : {M : Type 1} → statement M

@@ -21,7 +21,7 @@ returns c =
     let h = c.before.before.before.before.before.before.before.before.before.before.before.before.put-field4.ensures in
     let w = c.before.before.before.before.before.before.before.put-width.ensures in
     let p = c.before.before.put.ensures in
-    (omega (arith, e.0, f.0, g.0, h.0, w.0, p.0, c.before.before.before.before.before.before.before.before.before.before.before.before.before.before.before.before.before.before.before.before.before.before.before.before.before.before.before.before.before.before.before.before.before.before.before.before.before.before.before.requires.2), p.1 ∙ rw (w.1, c.before.before.before.before.before.before.before.before.width_of_lem.ensures, h.1, g.1, f.1, e.1, segment_line))
+    (omega (arith, e.0, f.0, g.0, h.0, w.0, p.0, c.before.before.before.before.before.before.before.before.before.before.before.before.before.before.before.before.before.before.before.before.before.before.before.before.before.before.before.before.before.before.before.before.before.before.before.before.before.before.before.requires.2), p.1 ∙ rw (w.1, c.before.before.before.before.before.before.before.before.width_of.ensures, h.1, g.1, f.1, e.1, segment_line))
 
 pub segment-line-spec : {M : Type 1} → statement M
 segment-line-spec = tie.close (tie.spec

@@ -17,7 +17,7 @@ returns-7 c =
     let known = asked.before.before.before.before in
     let a = known.before.before.before.before.before.args in
     let counts = known.before.before.before.before.before.requires.0 in
-    let g = width_there a.s a.widths.now a.k _ (sym asked.width_of_lem.ensures ∙ told.w.given.1) in
+    let g = width_there a.s a.widths.now a.k _ (sym asked.width_of.ensures ∙ told.w.given.1) in
     sure_all _ _ _ _ _ (omega arith) (omega arith)
     (record {
       has = g.0;

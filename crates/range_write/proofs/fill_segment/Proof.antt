@@ -35,7 +35,7 @@ returns-2 c =
     let a = (start d).args in
     let n = next d in
     let r = run_of (X d) a.k _ a.p _ a.until refl (start d).requires.5 n.0 n.2 c.before.before.before.if1.false in
-    false_not_true _ r.has (width_absent a.s a.widths.now a.k (sym c.before.before.width_of_lem.ensures ∙ c.enum_told.given.1))
+    false_not_true _ r.has (width_absent a.s a.widths.now a.k (sym c.before.before.width_of.ensures ∙ c.enum_told.given.1))
 
 abbrev seen : tie.After-known-told → tie.After-put-base
 seen c = c.before.before.before.before.before.before.before
@@ -45,7 +45,7 @@ run c =
     let d = seen c in
     let a = (start d).args in
     let n = next d in
-    let e = sym c.before.before.before.width_of_lem.ensures ∙ c.before.w.given.1 in
+    let e = sym c.before.before.before.width_of.ensures ∙ c.before.w.given.1 in
     run_of (X d) a.k _ a.p _ a.until (width_there a.s a.widths.now a.k _ e).1 (start d).pre.5 n.0 n.2 c.before.before.before.before.if1.false
 
 mul_at : tie.Need-overflow-mul-at

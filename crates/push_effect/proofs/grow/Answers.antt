@@ -1,0 +1,7 @@
+-- The rule's record, field by field.
+use mathlib.Core.Path.{refl}
+use borrow.Author.Rules.{rules}
+use Rattle.push_effect.proofs.grow.Goals as goal
+
+pub returns : goal.returns
+returns c = refl
