@@ -7,7 +7,7 @@ returns : tie.Need-returns
 returns c = rw c.before.pushed.given.1
 
 returns-2 : tie.Need-returns-2
-returns-2 c = rw (c.number_of_lem.ensures, c.before.before.pushed2.given.1)
+returns-2 c = rw (c.number_of.ensures, c.before.before.pushed2.given.1)
 
 pub pushed-on-spec : {M : Type 1} → statement M
 pushed-on-spec = tie.close (tie.spec

@@ -4,7 +4,7 @@ use Rattle.replay.proofs.refusal.Statement.{statement}
 use Rattle.replay.proofs.refusal.Tie as tie
 
 returns : tie.Need-returns
-returns c = rw c.number_of_lem.ensures
+returns c = rw c.number_of.ensures
 
 pub refusal-spec : {M : Type 1} → statement M
 refusal-spec = tie.close (tie.spec

@@ -1,0 +1,6 @@
+-- Each arm tells what the answer says in that case.
+use borrow.Author.Rules.{rules}
+use Rattle.crossing.proofs.tell.Goals as goal
+
+pub returns-in-Refused : goal.returns-in-Refused
+returns-in-Refused c = rw (c.in-Refused.is, c.number_of.ensures)
