@@ -1,0 +1,6 @@
+-- The state is default_index's.
+use borrow.Author.Rules.{rules}
+use Rattle.dump.proofs.start.Goals as goal
+
+pub returns : goal.returns
+returns c = rw c.default_index.ensures
