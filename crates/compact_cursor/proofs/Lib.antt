@@ -1,2 +1,1 @@
-mod Says2
 mod Moves

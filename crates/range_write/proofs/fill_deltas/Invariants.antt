@@ -1,0 +1,15 @@
+-- The invariant: the first i sums are put, and the next delta starts i widths after the first.
+use Prim.Native.Nat.{◌+◌, ◌-◌, ◌*◌, ◌≤◌}
+use mathlib.Core.Path.{◌≡◌, refl, ◌∙◌}
+use native.Mathlib.Omega.{arith}
+use lib.ListN.{length, length-set}
+use Rattle.laws.proofs.Bytes.{delta_room}
+use Rattle.range_write.specs.Puts.{puts, sums}
+use Rattle.range_write.proofs.Writing.{puts_more, puts_none, next_delta}
+use Rattle.range_write.proofs.fill_deltas.Given as goal
+
+abbrev pub invariant-deltas : goal.invariant-deltas
+invariant-deltas l = (l.i ≤ l.n) × (l.here ≡ l.at + l.i * l.width) × (l.out ≡ puts (sums l.bytes l.base l.at l.width) l.from l.i l.initial.out) × (length l.out ≡ length l.initial.out)
+
+abbrev pub decreases-deltas : goal.decreases-deltas
+decreases-deltas l = l.n - l.i
