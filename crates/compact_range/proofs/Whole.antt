@@ -43,7 +43,9 @@ puts_sets f from (suc n) out =
     let m : suc n ≡ 1 + n = omega arith in
     ap (λ (k : ℕ). puts f from k out) m
     ∙ sym (puts_join f (λ i. f (suc i)) from 1 n out (λ j h. let y : suc j ≡ 1 + j = omega arith in ap f y))
-    ∙ rw (e, puts, z) (puts_sets (λ i. f (suc i)) (suc from) n (set out from (f 0)))
+    ∙ ap (λ (o : List ℕ). puts (λ i. f (suc i)) (from + 1) n o) (ap (λ (k : ℕ). set out k (f 0)) z)
+    ∙ ap (λ (k : ℕ). puts (λ i. f (suc i)) k n (set out from (f 0))) e
+    ∙ puts_sets (λ i. f (suc i)) (suc from) n (set out from (f 0))
 
 -- a range of values is the list of them
 reads_firsts : (x : Index) (n a : ℕ) (f : ℕ → ℕ) → ((i : ℕ) → i < n → get_rule x (a + i) ≡ value (f i)) → reads x a n ≡ value (firsts f n)
