@@ -11,7 +11,7 @@ use Rattle.audit_rules.proofs.rule_e.Goals as goal
 pub returns-then-not-first_is_zero : goal.returns-then-not-first_is_zero
 returns-then-not-first_is_zero c =
     let a = c.args in
-    sym (e_zero (index a.s [] [] a.offsets.now [] []) a.k a.d a.w _ _ c.entry_or-offset.ensures c.entry_or-end.ensures (failed c.first_is_zero.ensures c.if-not-first_is_zero.true-raw))
+    sym (e_zero (index a.s [] [] a.offsets.now [] []) a.k a.d a.w _ _ c.entry_or-offset.ensures c.entry_or-end.ensures (sym c.if-not-first_is_zero.ensures))
 
 pub returns-then-end-offset : goal.returns-then-end-offset
 returns-then-end-offset c =
@@ -21,4 +21,4 @@ returns-then-end-offset c =
 pub returns : goal.returns
 returns c =
     let a = c.args in
-    e_same (index a.s [] [] a.offsets.now [] []) a.k a.d a.w _ _ c.entry_or-offset.ensures c.entry_or-end.ensures (omega arith) (omega arith) (passed c.first_is_zero.ensures c.if-not-first_is_zero.false-raw) c.if-end-offset.false
+    e_same (index a.s [] [] a.offsets.now [] []) a.k a.d a.w _ _ c.entry_or-offset.ensures c.entry_or-end.ensures (omega arith) (omega arith) (sym c.if-not-first_is_zero.ensures) c.if-end-offset.false

@@ -26,7 +26,7 @@ returns c =
       most = c.if-width-gt8.false;
       from = c.if-used-offset.false;
       room = c.if-used-offset-2.false;
-      sum = leb-true _ _ (passed c.all_fit.ensures c.if-not-all_fit.false-raw);
+      sum = leb-true _ _ (sym c.if-not-all_fit.ensures);
       within = omega (arith, counts);
       bytes = λ i l. omega (arith, known.type_inv.bytes i);
     })

@@ -6,8 +6,8 @@ use Rattle.tables.proofs.counts_hold.Goals as goal
 
 pub returns-then-not-state_holds : goal.returns-then-not-state_holds
 unfolding counts_hold
-returns-then-not-state_holds c = sym (left _ _ _ (refuted_of _ (failed c.state_holds.ensures c.if-not-state_holds.true-raw)))
+returns-then-not-state_holds c = sym (left _ _ _ (refuted_of _ (sym c.if-not-state_holds.ensures)))
 
 pub returns : goal.returns
 unfolding counts_hold
-returns c = c.room_holds.ensures ∙ sym (taken _ _ _ (facts_of _ (passed c.state_holds.ensures c.if-not-state_holds.false-raw)))
+returns c = c.room_holds.ensures ∙ sym (taken _ _ _ (facts_of _ (sym c.if-not-state_holds.ensures)))
