@@ -1,5 +1,6 @@
 // Opening an index.
 #![tactic(auto)]
+
 ghost use Rattle.std.specs.Prelude.{◌≡◌};
 ghost use Rattle.rules.specs.Record.{default_minimum, fresh_state, open_rule};
 ghost use Rattle.rules.specs.Refusals.{opened_of};

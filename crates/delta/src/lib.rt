@@ -1,5 +1,6 @@
 // Deltas: the width that one needs, and storing, loading and searching deltas of one to eight bytes, least significant byte first.
 #![tactic(auto)]
+
 ghost use Rattle.std.specs.Prelude.{◌≡◌, ◌+◌, ◌*◌, ◌^◌, ◌≤◌, leb, length};
 ghost use Rattle.std.proofs.lemmas.List.Edits.{sets};
 ghost use Rattle.rules.specs.Push.{byte_width, need_of, delta_bytes, delta_at};

@@ -1,5 +1,6 @@
 // Whole-table searches over a lent table of u64, each the halving rule with its own test.
 #![tactic(auto)]
+
 ghost use Rattle.std.specs.Prelude.{◌≡◌, ◌≤◌, ◌<◌, min, length};
 ghost use Rattle.rules.specs.Reading.{halving, at_most};
 ghost use Rattle.index_stream.specs.Searches.{below, turned, Finds};

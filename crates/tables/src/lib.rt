@@ -1,5 +1,6 @@
 // What every entry point asks first: the counts rule, a range's bounds, a segment's width, where a segment begins.
 #![tactic(auto)]
+
 ghost use Rattle.std.specs.Prelude.{◌≡◌, true, false, ◌≤◌, ltb, length, get_or};
 ghost use Rattle.rules.specs.Words.{when, when_all};
 ghost use Rattle.rules.specs.Record.{index, room_of, state_tests, room_tests, counts_hold};

@@ -1,10 +1,10 @@
 -- The invariant: halving from here gives what halving from the start gives.
-use Prim.Native.Nat.{◌+◌, ◌-◌, ◌*◌, ◌≤◌}
+use Prim.Native.Nat.{◌+◌, ◌*◌, ◌≤◌}
 use native.Mathlib.Omega.{arith}
 use native.Mathlib.Nat.{le-mul_of_pos_right}
 use borrow.Author.Tests.{lt-ltb, le-ltb}
-use Rattle.rules.specs.Reading.{middle, delta_below}
-use Rattle.laws.proofs.Halving.{Halfway, halfway_start, halfway_up, halfway_down, halfway_done}
+use Rattle.rules.specs.Reading.{middle}
+use Rattle.laws.proofs.Halving.{halfway_start, halfway_up, halfway_down, halfway_done}
 use Rattle.laws.proofs.Bytes.{delta_room}
 use Rattle.delta.proofs.count_below.Goals as goal
 

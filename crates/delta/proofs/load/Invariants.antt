@@ -1,10 +1,7 @@
 -- The invariant: the bytes from i on make the value, which is below 256 to their number.
-use Prim.Native.Nat.{ℕ, ◌+◌, ◌-◌, ◌*◌, ◌^◌, ◌≤◌, ◌<◌}
-use mathlib.Core.Path.{◌≡◌, ◌∙◌}
-use native.Mathlib.Omega.{arith}
-use lib.ListN.{get_or}
+use Prim.Native.Nat.{◌+◌, ◌-◌, ◌^◌, ◌≤◌, ◌<◌}
+use mathlib.Core.Path.{◌≡◌}
 use Rattle.rules.specs.Push.{delta_at}
-use Rattle.delta.proofs.Loading.{delta_turn, below_turn, below_fits}
 use Rattle.delta.proofs.load.Given as goal
 
 abbrev pub invariant-loop-i : goal.invariant-loop-i

@@ -1,13 +1,11 @@
 -- The invariant: what is still to be stored, stored now, gives the whole.
 use borrow.Author.Rules.{rules}
-use mathlib.Core.Path.{◌≡◌, refl, sym, ◌∙◌}
-use Prim.Native.Nat.{suc, ◌≤◌, ◌-◌}
+use mathlib.Core.Path.{refl, sym, ◌∙◌}
+use Prim.Native.Nat.{suc, ◌-◌}
 use native.Mathlib.Omega.{arith}
 use native.Mathlib.Nat.{sub-zero}
 use native.Mathlib.Numerals.{add-one}
-use lib.ListN.{length, length-set}
-use lib.Seq.{sets}
-use Rattle.rules.specs.Push.{delta_bytes}
+use lib.ListN.{length-set}
 use Rattle.delta.proofs.Storing.{store_step, store_done}
 use Rattle.delta.proofs.store_delta.Goals as goal
 

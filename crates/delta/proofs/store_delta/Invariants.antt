@@ -1,14 +1,9 @@
 -- The invariant: what is still to be stored, stored now, gives the whole.
-use borrow.Author.Rules.{rules}
-use mathlib.Core.Path.{◌≡◌, refl, sym, ◌∙◌}
-use Prim.Native.Nat.{suc, ◌≤◌, ◌-◌}
-use native.Mathlib.Omega.{arith}
-use native.Mathlib.Nat.{sub-zero}
-use native.Mathlib.Numerals.{add-one}
-use lib.ListN.{length, length-set}
+use mathlib.Core.Path.{◌≡◌}
+use Prim.Native.Nat.{◌≤◌, ◌-◌}
+use lib.ListN.{length}
 use lib.Seq.{sets}
 use Rattle.rules.specs.Push.{delta_bytes}
-use Rattle.delta.proofs.Storing.{store_step, store_done}
 use Rattle.delta.proofs.store_delta.Given as goal
 
 abbrev pub invariant-loop-i : goal.invariant-loop-i

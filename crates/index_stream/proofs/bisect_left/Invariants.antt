@@ -1,9 +1,7 @@
 -- The invariant: halving from here gives what halving from the start gives.
 use Prim.Native.Nat.{◌-◌}
-use native.Mathlib.Omega.{arith}
-use borrow.Author.Tests.{lt-ltb, le-ltb}
 use Rattle.index_stream.specs.Searches.{below}
-use Rattle.laws.proofs.Halving.{Halfway, halfway_start, halfway_up, halfway_down, halfway_done}
+use Rattle.laws.proofs.Halving.{Halfway}
 use Rattle.index_stream.proofs.bisect_left.Given as goal
 
 abbrev pub invariant-loop-high : goal.invariant-loop-high

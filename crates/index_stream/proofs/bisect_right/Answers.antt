@@ -1,9 +1,7 @@
 -- The invariant: halving from here gives what halving from the start gives.
-use Prim.Native.Nat.{◌-◌}
 use native.Mathlib.Omega.{arith}
 use borrow.Author.Tests.{le-leb, lt-leb}
-use Rattle.rules.specs.Reading.{at_most}
-use Rattle.laws.proofs.Halving.{Halfway, halfway_start, halfway_up, halfway_down, halfway_done}
+use Rattle.laws.proofs.Halving.{halfway_start, halfway_up, halfway_down, halfway_done}
 use Rattle.index_stream.proofs.bisect_right.Goals as goal
 
 pub loop-high-init : goal.loop-high-init

@@ -1,12 +1,10 @@
 -- The invariant: for every u from v up to `until`, halving from here gives what halving from the start gives.
-use Prim.Native.Nat.{ℕ, ◌-◌, ◌≤◌, ◌<◌, min}
+use Prim.Native.Nat.{ℕ, ◌<◌, min}
 use mathlib.Core.Path.{◌≡◌, refl, sym, ◌∙◌}
 use native.Mathlib.Omega.{arith}
 use native.Mathlib.Nat.{le_trans}
 use borrow.Author.Tests.{le-leb, lt-leb}
-use Rattle.rules.specs.Reading.{at_most}
-use Rattle.laws.proofs.Halving.{Halfway, halfway_start, halfway_up, halfway_down, halfway_done}
-use Rattle.index_stream.specs.Searches.{turning, turned}
+use Rattle.laws.proofs.Halving.{halfway_start, halfway_up, halfway_down, halfway_done}
 use Rattle.index_stream.proofs.Turned.{turning_done, turning_up, turning_least}
 use Rattle.index_stream.proofs.bisect_right_until.Goals as goal
 

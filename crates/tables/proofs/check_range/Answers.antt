@@ -2,7 +2,6 @@
 use mathlib.Core.Path.{sym}
 use borrow.Author.Tests.{le-leb, lt-leb}
 use Rattle.tables.specs.Range.{check_rule}
-use Rattle.laws.proofs.Tests.{passed, failed}
 use Rattle.tables.proofs.check_range.Goals as goal
 
 pub returns-then-not-counts_hold : goal.returns-then-not-counts_hold

@@ -1,7 +1,7 @@
 -- The state's tests, then the tables': the two callees' answers, one under the other.
 use mathlib.Core.Path.{sym, ◌∙◌}
 use Rattle.rules.specs.Record.{counts_hold}
-use Rattle.laws.proofs.Tests.{taken, left, facts_of, refuted_of, passed, failed}
+use Rattle.laws.proofs.Tests.{taken, left, facts_of, refuted_of}
 use Rattle.tables.proofs.counts_hold.Goals as goal
 
 pub returns-then-not-state_holds : goal.returns-then-not-state_holds
