@@ -1,5 +1,6 @@
 // The lines that say how the input ended and what a segment is.
 #![tactic(auto)]
+
 ghost use Rattle.std.specs.Prelude.{◌≤◌, ◌<◌, length};
 ghost use Rattle.rules.specs.Words.{Facts};
 ghost use Rattle.rules.specs.Record.{index};
@@ -10,6 +11,7 @@ use dump::Carried;
 use rules::State;
 
 // The line that says how the input ended: a refusal, or a tail of bytes that make no value; otherwise none.
+#[tactic(auto, unfolding(dump_put::specs::Report::end_line))]
 pub fn end_line(carried: Carried, out: &mut [u8]) -> u64
     requires { 160 ≤ length out.old }
     ensures { Begins result out.new (end_line carried.state.length carried.count carried.refusal) }

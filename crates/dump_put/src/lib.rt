@@ -1,5 +1,6 @@
 // Labels, numbers and widths as text, put into a lent buffer.
 #![tactic(auto)]
+
 ghost use Rattle.std.specs.Prelude.{◌≡◌, ◌++◌, ◌+◌, ◌≤◌, length, take};
 ghost use Rattle.dump_put.specs.Report.{decimal, newline, width_text, Begins};
 

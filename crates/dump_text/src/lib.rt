@@ -1,5 +1,6 @@
 // The lines of the dump's report, put into a lent buffer.
 #![tactic(auto)]
+
 ghost use Rattle.dump.specs.Feeding.{fed_of};
 ghost use Rattle.dump_put.specs.Report.{report_line, Begins};
 
