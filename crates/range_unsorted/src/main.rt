@@ -1,8 +1,10 @@
 // get_range over starts that are not sorted, 0 2 1 1: main's proof shows that it gives 100 and 400 and leaves the rest of the output.
 #![tactic(auto)]
-use rules::State;
 
-fn main() {
+use rules::State;
+use std::io;
+
+fn main(rt: HostRuntime) -> io::Result<()> {
     let s = State {
         minimum: 1,
         length: 4,
@@ -22,8 +24,7 @@ fn main() {
     check::expect(out[0] == 100);
     check::expect(out[1] == 400);
     check::expect(out[2] == 7);
-    io::print_decimal(1, out[0]);
-    io::write_all(1, b" ");
-    io::print_decimal(1, out[1]);
-    io::write_all(1, b"\n");
+    let first = out[0];
+    let second = out[1];
+    println!(rt; "{first} {second}")
 }
