@@ -1,5 +1,8 @@
 // Replays the original's answers: its stored input is what `oracle/run --record` writes.
 #![tactic(auto)]
-fn main() {
-    replay_io::run();
+
+use std::io;
+
+fn main(rt: HostRuntime) -> io::Result<()> {
+    replay_io::run(&rt)
 }

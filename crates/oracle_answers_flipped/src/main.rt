@@ -1,5 +1,8 @@
 // Replays a few of the original's answers with one byte of one answer changed: the program must say so.
 #![tactic(auto)]
-fn main() {
-    replay_io::run();
+
+use std::io;
+
+fn main(rt: HostRuntime) -> io::Result<()> {
+    replay_io::run(&rt)
 }

@@ -1,13 +1,16 @@
 // The replay program: reads records from standard input, replays them, and writes what it counted.
 #![tactic(auto)]
-ghost use Rattle.std.specs.Prelude.{◌<◌};
 
-use libc::{STDIN_FILENO, STDOUT_FILENO};
+ghost use Rattle.std.specs.Prelude.{◌<◌, ◌≤◌, length, IfOk};
+
 use replay::Reply;
 use replay_tally::{Difference, Progress, Tally};
+use std::io;
+use std::io::Read;
 
 // Replays standard input to its end, then writes the result. No recorded list has more than 24 values.
-pub fn run() {
+// A read or a write that fails ends it with that error.
+pub fn run(rt: &(impl Input + Print)) -> io::Result<()> {
     let mut starts = [0u64; 24];
     let mut bases = [0u64; 24];
     let mut offsets = [0u64; 24];
@@ -15,37 +18,55 @@ pub fn run() {
     let mut bytes = [0u8; 192];
     let mut out = [0u64; 24];
     let progress = replay_all(
+        rt,
         &mut starts,
         &mut bases,
         &mut offsets,
         &mut widths,
         &mut bytes,
         &mut out,
-    );
-    write_tally(progress.tally);
+    )?;
+    write_tally(rt, progress.tally)
 }
 
-// Replays each record of standard input. A read that fails counts as the end of the input.
+// Replays each record of standard input.
 // The loop has to end and nothing says that the input does: it has more turns than any run takes.
 fn replay_all(
+    rt: &impl Input,
     starts: &mut [u64],
     bases: &mut [u64],
     offsets: &mut [u64],
     widths: &mut [u8],
     bytes: &mut [u8],
     out: &mut [u64],
-) -> Progress {
+) -> io::Result<Progress> {
+    let mut input = rt.reader();
     let mut progress = replay_tally::start();
     let mut recorded = [0u8; 64];
     let mut turns = u64::MAX;
     while turns > 0 {
-        let n = io::read_full(STDIN_FILENO, &mut recorded);
+        let n = read_full(&mut input, &mut recorded)?;
         progress = replay_tally::take(
             progress, starts, bases, offsets, widths, bytes, out, &recorded, n as u64,
         );
         turns = turns_left(turns, n);
     }
-    progress
+    Ok(progress)
+}
+
+// Reads until `recorded` is full or the input ends, and answers how many bytes it put at the start.
+fn read_full(input: &mut impl Read, recorded: &mut [u8]) -> io::Result<usize>
+    ensures { IfOk result (λ n. n ≤ length recorded.new) }
+{
+    let mut done = 0;
+    while done < recorded.len() {
+        let n = input.read(&mut recorded[done..])?;
+        if n == 0 {
+            return Ok(done);
+        }
+        done += n;
+    }
+    Ok(done)
 }
 
 // How many turns are left after one that read n bytes: none where that is no whole record.
@@ -60,48 +81,48 @@ fn turns_left(turns: u64, n: usize) -> u64
 }
 
 // Writes how many records there were and how many differ; then what else there is to say of them.
-fn write_tally(t: Tally) {
-    put(b"replayed ", t.records);
-    put(b" differ ", t.differ);
-    io::write_all(STDOUT_FILENO, b"\n");
-    line(b"unknown ", t.unknown);
-    line(b"tail ", t.tail);
+fn write_tally(rt: &impl Print, t: Tally) -> io::Result<()> {
+    put(rt, b"replayed ", t.records)?;
+    put(rt, b" differ ", t.differ)?;
+    rt.write_all(b"\n")?;
+    line(rt, b"unknown ", t.unknown)?;
+    line(rt, b"tail ", t.tail)?;
     let first = t.first;
-    write_difference(first);
+    write_difference(rt, first)
 }
 
 // Writes the first difference, if there is one: the record's number and kind, the answer due and the one found.
-fn write_difference(d: Difference) {
+fn write_difference(rt: &impl Print, d: Difference) -> io::Result<()> {
     if d.number == 0 {
-        return;
+        return Ok(());
     }
-    put(b"record ", d.number);
-    put(b" kind ", d.kind);
+    put(rt, b"record ", d.number)?;
+    put(rt, b" kind ", d.kind)?;
     let due = d.due;
-    put_reply(b" due ", due);
+    put_reply(rt, b" due ", due)?;
     let found = d.found;
-    put_reply(b" found ", found);
-    io::write_all(STDOUT_FILENO, b"\n");
+    put_reply(rt, b" found ", found)?;
+    rt.write_all(b"\n")
 }
 
 // Writes a label and the three numbers of an answer.
-fn put_reply(label: &[u8], y: Reply) {
-    put(label, y.answered);
-    put(b" ", y.r);
-    put(b" ", y.s);
+fn put_reply(rt: &impl Print, label: &[u8], y: Reply) -> io::Result<()> {
+    put(rt, label, y.answered)?;
+    put(rt, b" ", y.r)?;
+    put(rt, b" ", y.s)
 }
 
 // Writes a line with a label and a number that is not 0.
-fn line(label: &[u8], n: u64) {
+fn line(rt: &impl Print, label: &[u8], n: u64) -> io::Result<()> {
     if n == 0 {
-        return;
+        return Ok(());
     }
-    put(label, n);
-    io::write_all(STDOUT_FILENO, b"\n");
+    put(rt, label, n)?;
+    rt.write_all(b"\n")
 }
 
 // Writes a label and a number.
-fn put(label: &[u8], n: u64) {
-    io::write_all(STDOUT_FILENO, label);
-    io::print_decimal(STDOUT_FILENO, n);
+fn put(rt: &impl Print, label: &[u8], n: u64) -> io::Result<()> {
+    rt.write_all(label)?;
+    rt.print(n)
 }
