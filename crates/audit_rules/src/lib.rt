@@ -1,5 +1,6 @@
 // The audit's rules B to F, each of one segment, as a test.
 #![tactic(auto)]
+
 ghost use Rattle.std.specs.Prelude.{◌≡◌, true, false, [], ℕ, ◌≤◌, ◌<◌, ◌+◌, ◌*◌, ◌^◌, length};
 ghost use Rattle.rules.specs.Words.{◌≡?◌, ◌⇒?◌, holds, all_below, when_all};
 ghost use Rattle.rules.specs.Record.{index, edge, width_tests};

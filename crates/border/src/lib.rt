@@ -1,5 +1,6 @@
 // The border to C and Rust: opening, push, length, size, get, bisect_left. 0 is answered, 1 to 11 are the refusals' numbers.
 #![tactic(auto)]
+
 ghost use Rattle.std.specs.Prelude.{◌≡◌};
 ghost use Rattle.rules.specs.Record.{index, fresh_state, default_minimum, open_rule};
 ghost use Rattle.rules.specs.Push.{push_rule, length_rule, size_rule};

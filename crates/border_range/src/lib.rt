@@ -1,5 +1,6 @@
 // The border to C and Rust: get_range, the delta run and the audit. 0 is answered, 1 to 11 are the refusals' numbers.
 #![tactic(auto)]
+
 ghost use Rattle.std.specs.Prelude.{◌≡◌};
 ghost use Rattle.rules.specs.Record.{index};
 ghost use Rattle.rules.specs.Reading.{range_rule, run_count_rule, run_value_rule};

@@ -1,5 +1,6 @@
 // The border to C and Rust: target_range and bisect_range_left. 0 is answered, 1 to 11 are the refusals' numbers.
 #![tactic(auto)]
+
 ghost use Rattle.std.specs.Prelude.{◌≡◌};
 ghost use Rattle.rules.specs.Record.{index};
 ghost use Rattle.rules.specs.Reading.{span, target_rule, bisect_range_rule};

@@ -1,5 +1,6 @@
 // The border to C and Rust: a walk over positions. 0 is answered, 1 to 11 are the refusals' numbers.
 #![tactic(auto)]
+
 ghost use Rattle.std.specs.Prelude.{◌≡◌};
 ghost use Rattle.rules.specs.Record.{index};
 ghost use Rattle.rules.specs.Reading.{iter_rule, step_rule};

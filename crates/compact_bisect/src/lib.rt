@@ -1,5 +1,6 @@
 // Where a value would be ordered, in an index over lent tables, which may be damaged.
 #![tactic(auto)]
+
 ghost use Rattle.std.specs.Prelude.{◌≡◌, ◌≤◌, min, max};
 ghost use Rattle.rules.specs.Record.{index};
 ghost use Rattle.rules.specs.Reading.{bisect_rule, bisect_range_rule};

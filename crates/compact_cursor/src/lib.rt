@@ -1,5 +1,6 @@
 // A walk whose cursor the caller lends: each step moves it in place.
 #![tactic(auto)]
+
 ghost use Rattle.std.specs.Prelude.{◌≡◌};
 ghost use Rattle.rules.specs.Record.{index};
 ghost use Rattle.rules.specs.Reading.{step_rule};

@@ -1,5 +1,6 @@
 // A walk over a range of positions: opening it, and one step of it, with the cursor passed by value.
 #![tactic(auto)]
+
 ghost use Rattle.std.specs.Prelude.{◌≡◌};
 ghost use Rattle.rules.specs.Record.{index};
 ghost use Rattle.rules.specs.Reading.{iter_rule, step_rule};

@@ -1,5 +1,6 @@
 // get_range on any tables: what the search finds ahead, then one pass that decides and one that writes.
 #![tactic(auto)]
+
 ghost use Rattle.std.specs.Prelude.{◌≡◌};
 ghost use Rattle.rules.specs.Record.{index};
 ghost use Rattle.rules.specs.Reading.{ranged, range_rule};

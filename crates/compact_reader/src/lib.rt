@@ -1,5 +1,6 @@
 // Reads of an index over lent tables, which may be damaged.
 #![tactic(auto)]
+
 ghost use Rattle.std.specs.Prelude.{◌≡◌};
 ghost use Rattle.rules.specs.Record.{index};
 ghost use Rattle.rules.specs.Push.{length_rule, size_rule};

@@ -1,5 +1,6 @@
 // push: its plan, then the plan's effect on the lent tables.
 #![tactic(auto)]
+
 ghost use Rattle.std.specs.Prelude.{◌≡◌};
 ghost use Rattle.rules.specs.Record.{index};
 ghost use Rattle.rules.specs.Push.{push_rule};

@@ -1,5 +1,6 @@
 // What crosses the border to C and Rust: a state as five numbers, a cursor as two, an answer as a number and what its pointers say.
 #![tactic(auto)]
+
 ghost use Rattle.std.specs.Prelude.{◌≡◌};
 ghost use Rattle.rules.specs.Reading.{span};
 ghost use Rattle.rules.specs.Refusals.{number_of, answer_of, opened_of, target_of, walk_of, step_of};

@@ -1,5 +1,6 @@
 // A delta run: one segment's packed bytes with its base and width, and what it answers.
 #![tactic(auto)]
+
 ghost use Rattle.std.specs.Prelude.{◌≡◌};
 ghost use Rattle.rules.specs.Reading.{run_count_rule, run_value_rule};
 ghost use Rattle.rules.specs.Refusals.{answer_of};

@@ -1,5 +1,6 @@
 // Feeding an index with 8-byte little-endian values from an input that comes in pieces of any length.
 #![tactic(auto)]
+
 ghost use Rattle.std.specs.Prelude.{◌≡◌};
 ghost use Rattle.dump.specs.Feeding.{fed_of, nothing, with_byte, carried_after, byte_rule, feed_rule};
 

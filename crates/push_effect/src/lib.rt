@@ -1,5 +1,6 @@
 // The effect of a push that is planned: what it stores in the lent tables, and the next state.
 #![tactic(auto)]
+
 ghost use Rattle.std.specs.Prelude.{◌≡◌, ◌≤◌, ◌<◌, ◌+◌, ◌^◌, length, set};
 ghost use Rattle.std.proofs.lemmas.List.Edits.{sets};
 ghost use Rattle.rules.specs.Push.{delta_bytes, grown};

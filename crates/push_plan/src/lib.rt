@@ -1,5 +1,6 @@
 // The plan of a push: what it is to do, made of numbers alone, before anything is written.
 #![tactic(auto)]
+
 ghost use Rattle.std.specs.Prelude.{◌≡◌, true, false, ◌≤◌};
 ghost use Rattle.rules.specs.Words.{Facts, when_all};
 ghost use Rattle.rules.specs.Record.{index, data_limit};

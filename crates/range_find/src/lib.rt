@@ -1,5 +1,6 @@
 // Which segment each position of a range is in, with few searches.
 #![tactic(auto)]
+
 ghost use Rattle.std.specs.Prelude.{◌≡◌, true, ◌≤◌, ◌<◌, length};
 ghost use Rattle.index_stream.specs.Searches.{Finds};
 ghost use Rattle.range_find.specs.Starts.{Rises, Known};

@@ -1,5 +1,6 @@
 // Whether each position of a range gives a value.
 #![tactic(auto)]
+
 ghost use Rattle.std.specs.Prelude.{◌≡◌, true, ◌-◌, ◌≤◌, ◌<◌, get_or};
 ghost use Rattle.rules.specs.Words.{Facts};
 ghost use Rattle.rules.specs.Record.{index};

@@ -1,5 +1,6 @@
 // Puts the values of a range, each of which the tables give, into the output.
 #![tactic(auto)]
+
 ghost use Rattle.std.specs.Prelude.{◌≡◌, true, ◌+◌, ◌-◌, ◌*◌, ◌≤◌, ◌<◌, length, get_or};
 ghost use Rattle.rules.specs.Words.{Facts};
 ghost use Rattle.rules.specs.Record.{index};

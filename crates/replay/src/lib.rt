@@ -1,5 +1,6 @@
 // Replaying recorded calls of an index: each is made by the proved code, and its answer is held to the recorded one.
 #![tactic(auto)]
+
 ghost use Rattle.std.specs.Prelude.{◌≡◌};
 ghost use Rattle.rules.specs.Record.{index};
 ghost use Rattle.rules.specs.Refusals.{number_of, opened_of, answer_of, target_of, walk_of, step_of};

@@ -1,5 +1,6 @@
 // A list of records replayed: each record's call is made, and what it answers is held to the recorded answer.
 #![tactic(auto)]
+
 ghost use Rattle.std.specs.Prelude.{◌≡◌, ◌<◌};
 ghost use Rattle.replay.specs.Replaying.{reply};
 ghost use Rattle.rules.specs.Record.{fresh_state};

@@ -1,5 +1,6 @@
 // The value at a position of a given segment, on any tables.
 #![tactic(auto)]
+
 ghost use Rattle.std.specs.Prelude.{◌≡◌, ◌≤◌, ◌<◌, length};
 ghost use Rattle.rules.specs.Words.{Facts};
 ghost use Rattle.rules.specs.Record.{index};

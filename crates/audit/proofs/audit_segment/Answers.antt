@@ -1,9 +1,8 @@
 -- The letters in the rule's order; C to F are asked at the deltas and the width that the segment has.
-use Prim.Native.Nat.{ℕ, ◌≤◌}
-use mathlib.Core.Path.{◌≡◌, refl, sym, ◌∙◌}
+use mathlib.Core.Path.{refl, sym, ◌∙◌}
 use native.Mathlib.Omega.{arith}
 use borrow.Author.Tests.{ltb-true, ltb-false}
-use Rattle.rules.specs.Record.{Index, index, width}
+use Rattle.rules.specs.Record.{index, width}
 use Rattle.laws.proofs.Answers.{width_there, width_absent}
 use Rattle.audit_rules.proofs.Letters.{b_room}
 use Rattle.audit.proofs.Order.{flaw_here, past_b, without_flaw, without_none}

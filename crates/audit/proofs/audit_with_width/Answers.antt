@@ -5,11 +5,11 @@ use mathlib.Core.List.{[]}
 use mathlib.Core.Path.{◌≡◌, sym, ◌∙◌}
 use native.Mathlib.Omega.{arith}
 use lib.ListN.{drop}
-use Rattle.rules.specs.Words.{Facts, when_all}
+use Rattle.rules.specs.Words.{when_all}
 use Rattle.rules.specs.Record.{Index, index, width_tests}
 use Rattle.rules.specs.Audit.{first_flaw}
 use Rattle.laws.proofs.Tests.{facts_of}
-use Rattle.audit_rules.specs.Letters.{rule_c, rule_d, rule_e, rule_f, rules_cto_f}
+use Rattle.audit_rules.specs.Letters.{rule_c, rule_d, rule_e, rules_cto_f}
 use Rattle.audit_rules.proofs.Letters.{c_same, e_room, f_same}
 use Rattle.audit.proofs.Order.{flaw_none, flaw_next, flaw_here}
 use Rattle.audit.proofs.audit_with_width.Goals as goal

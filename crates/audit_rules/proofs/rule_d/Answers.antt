@@ -7,7 +7,6 @@ use lib.Dec.{ltb}
 use Rattle.rules.specs.Record.{index}
 use Rattle.laws.proofs.Tests.{taken}
 use Rattle.audit_rules.proofs.Letters.{d_back, d_same}
-use borrow.Author.Rules.{rules}
 use Rattle.audit_rules.proofs.rule_d.Goals as goal
 
 pub returns-then-s-k : goal.returns-then-s-k

@@ -3,9 +3,7 @@ use mathlib.Core.List.{[]}
 use mathlib.Core.Path.{refl, sym}
 use native.Mathlib.Omega.{arith}
 use Rattle.rules.specs.Record.{index}
-use Rattle.laws.proofs.Tests.{passed, failed}
 use Rattle.audit_rules.proofs.Letters.{e_zero, e_without}
-use borrow.Author.Rules.{rules}
 use Rattle.audit_rules.proofs.rule_e_without_width.Goals as goal
 
 pub returns-then-not-first_is_zero : goal.returns-then-not-first_is_zero

@@ -1,6 +1,5 @@
 -- The core function meets the rule; what it answered is told as the border tells it.
 use mathlib.Core.Path.{◌∙◌}
-use borrow.Author.Rules.{rules}
 use Rattle.border.proofs.rotlantern_length.Goals as goal
 
 pub returns : goal.returns

@@ -1,5 +1,4 @@
 -- The core function meets the rule; what it answered is told as the border tells it.
-use borrow.Author.Rules.{rules}
 use Rattle.border.proofs.rotlantern_open_default.Goals as goal
 
 pub returns : goal.returns

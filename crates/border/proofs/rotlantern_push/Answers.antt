@@ -2,7 +2,6 @@
 use mathlib.Core.Path.{sym, ap, ◌∙◌}
 use Rattle.rules.specs.Push.{Outcome}
 use Rattle.crossing.proofs.Pushed.{outcome_apart}
-use borrow.Author.Rules.{rules}
 use Rattle.border.proofs.rotlantern_push.Goals as goal
 
 pub returns : goal.returns

@@ -1,7 +1,6 @@
 -- The core function meets the rule; what it answered is told as the border tells it.
 use mathlib.Core.Path.{ap, ◌∙◌}
 use Rattle.rules.specs.Reading.{Ranged}
-use borrow.Author.Rules.{rules}
 use Rattle.border_range.proofs.rotlantern_get_range.Goals as goal
 
 pub returns : goal.returns

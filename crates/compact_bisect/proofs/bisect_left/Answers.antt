@@ -5,8 +5,6 @@ use borrow.Author.Tests.{eq-eqb, ne_eqb}
 use Rattle.rules.specs.Reading.{at_most, bases_up_to, bisect_rule}
 use Rattle.laws.proofs.Halving.{halving_edge}
 use Rattle.laws.proofs.Counts.{counts_facts}
-use Rattle.laws.proofs.Tests.{passed, failed}
-use borrow.Author.Rules.{rules}
 use Rattle.compact_bisect.proofs.bisect_left.Goals as goal
 
 pub returns-then-not-counts_hold : goal.returns-then-not-counts_hold

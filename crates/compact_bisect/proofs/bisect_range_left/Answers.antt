@@ -3,7 +3,6 @@ use mathlib.Core.Path.{sym, ap, ◌∙◌}
 use Rattle.rules.specs.Reading.{bisect_range_rule}
 use Rattle.rules.specs.Refusals.{answer_of}
 use Rattle.tables.proofs.Range.{range_refused, range_good, range_facts}
-use borrow.Author.Rules.{rules}
 use Rattle.compact_bisect.proofs.bisect_range_left.Goals as goal
 
 pub returns-in-Refused : goal.returns-in-Refused

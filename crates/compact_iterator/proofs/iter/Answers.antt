@@ -1,7 +1,6 @@
 -- A refused check is the whole answer; a good one leaves the cursor over a..b.
 use Rattle.rules.specs.Reading.{iter_rule}
 use Rattle.tables.proofs.Range.{range_refused, range_good}
-use borrow.Author.Rules.{rules}
 use Rattle.compact_iterator.proofs.iter.Goals as goal
 
 pub returns-in-Refused : goal.returns-in-Refused

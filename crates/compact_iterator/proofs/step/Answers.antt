@@ -4,7 +4,6 @@ use native.Mathlib.Omega.{arith}
 use borrow.Author.Tests.{le-leb, lt-leb}
 use Rattle.rules.specs.Reading.{step_rule}
 use Rattle.rules.specs.Refusals.{answer_of}
-use borrow.Author.Rules.{rules}
 use Rattle.compact_iterator.proofs.step.Goals as goal
 
 pub returns-then-end-next : goal.returns-then-end-next

@@ -5,8 +5,6 @@ use borrow.Author.Tests.{lt-ltb, le-ltb, ne_eqb}
 use Rattle.rules.specs.Reading.{at_most, starts_up_to, get_rule}
 use Rattle.laws.proofs.Halving.{halving_edge}
 use Rattle.laws.proofs.Counts.{counts_facts}
-use Rattle.laws.proofs.Tests.{passed, failed}
-use borrow.Author.Rules.{rules}
 use Rattle.compact_reader.proofs.get.Goals as goal
 
 pub returns-then-not-counts_hold : goal.returns-then-not-counts_hold

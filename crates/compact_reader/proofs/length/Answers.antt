@@ -1,7 +1,6 @@
 -- The counts rule's test, decided by its branch.
 use mathlib.Core.Path.{sym, ◌∙◌}
 use Rattle.rules.specs.Push.{length_rule}
-use borrow.Author.Rules.{rules}
 use Rattle.compact_reader.proofs.length.Goals as goal
 
 pub returns-then-counts_hold : goal.returns-then-counts_hold

@@ -3,8 +3,6 @@ use mathlib.Core.Path.{sym}
 use native.Mathlib.Omega.{arith}
 use Rattle.rules.specs.Push.{size_rule}
 use Rattle.laws.proofs.Counts.{counts_facts}
-use Rattle.laws.proofs.Tests.{passed, failed}
-use borrow.Author.Rules.{rules}
 use Rattle.compact_reader.proofs.size.Goals as goal
 
 pub returns-then-not-counts_hold : goal.returns-then-not-counts_hold

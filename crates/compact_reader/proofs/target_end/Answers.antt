@@ -5,7 +5,6 @@ use Prim.Native.Nat.{◌+◌}
 use borrow.Author.Tests.{lt-ltb, le-ltb}
 use Rattle.rules.specs.Reading.{target_end}
 use Rattle.rules.specs.Refusals.{answer_of}
-use borrow.Author.Rules.{rules}
 use Rattle.compact_reader.proofs.target_end.Goals as goal
 
 pub returns-then-length-lt2 : goal.returns-then-length-lt2

@@ -2,7 +2,6 @@
 use mathlib.Core.Path.{sym, ap, ◌∙◌}
 use Rattle.rules.specs.Reading.{target_rule}
 use Rattle.rules.specs.Refusals.{answer_of}
-use borrow.Author.Rules.{rules}
 use Rattle.compact_reader.proofs.target_range.Goals as goal
 
 pub returns-in-Value-target_end : goal.returns-in-Value-target_end

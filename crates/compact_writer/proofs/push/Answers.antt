@@ -4,7 +4,6 @@ use native.Mathlib.Omega.{arith}
 use mathlib.Core.Path.{refl}
 use Rattle.push_plan.proofs.Bounds.{bounds}
 use Rattle.compact_writer.proofs.Outcomes.{push_at, same}
-use borrow.Author.Rules.{rules}
 use Rattle.compact_writer.proofs.push.Goals as goal
 
 pub start_segment-requires : goal.start_segment-requires

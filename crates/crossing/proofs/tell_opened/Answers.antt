@@ -1,5 +1,4 @@
 -- Each arm tells what the answer says in that case.
-use borrow.Author.Rules.{rules}
 use Rattle.crossing.proofs.tell_opened.Goals as goal
 
 pub returns-in-Fresh : goal.returns-in-Fresh

@@ -1,6 +1,5 @@
 -- Each arm tells what the answer says in that case.
 use mathlib.Core.Path.{◌∙◌}
-use borrow.Author.Rules.{rules}
 use Rattle.crossing.proofs.tell_pushed.Goals as goal
 
 pub returns-in-At : goal.returns-in-At

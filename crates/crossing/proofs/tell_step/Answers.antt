@@ -1,5 +1,4 @@
 -- Each arm tells what the step was: done, a value, or a refusal.
-use borrow.Author.Rules.{rules}
 use Rattle.crossing.proofs.tell_step.Goals as goal
 
 pub returns-in-Done : goal.returns-in-Done

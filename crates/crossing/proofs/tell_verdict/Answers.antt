@@ -1,5 +1,4 @@
 -- Each arm tells what the answer says in that case.
-use borrow.Author.Rules.{rules}
 use Rattle.crossing.proofs.tell_verdict.Goals as goal
 
 pub returns-in-Flaw : goal.returns-in-Flaw

@@ -3,7 +3,6 @@ use mathlib.Core.Path.{sym}
 use native.Mathlib.Omega.{arith}
 use Rattle.rules.specs.Reading.{run_count_rule}
 use Rattle.laws.proofs.Tests.{taken, left}
-use borrow.Author.Rules.{rules}
 use Rattle.delta_run.proofs.count_of.Goals as goal
 
 pub returns-then-width-lt1 : goal.returns-then-width-lt1

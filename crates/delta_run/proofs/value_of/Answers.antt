@@ -6,7 +6,6 @@ use Rattle.rules.specs.Reading.{run_value_rule}
 use Rattle.laws.proofs.Tests.{taken, left}
 use Rattle.laws.proofs.Bytes.{room_fits}
 use Rattle.delta_run.proofs.Counts.{count_given, count_refused}
-use borrow.Author.Rules.{rules}
 use Rattle.delta_run.proofs.value_of.Goals as goal
 
 pub returns-in_default : goal.returns-in_default

@@ -1,11 +1,8 @@
 -- The invariant: the rest of the piece, fed now, gives what the whole piece gives.
 use borrow.Author.Rules.{rules}
-use mathlib.Core.Path.{◌≡◌, refl, ◌∙◌}
-use Prim.Native.Nat.{◌≤◌, ◌-◌}
+use mathlib.Core.Path.{refl, ◌∙◌}
 use native.Mathlib.Omega.{arith}
 use native.Mathlib.Numerals.{add-one}
-use lib.ListN.{length, drop}
-use Rattle.dump.specs.Feeding.{fed_of, feed_rule}
 use Rattle.dump.proofs.Pieces.{feed_step, feed_done}
 use Rattle.dump.proofs.feed.Goals as goal
 

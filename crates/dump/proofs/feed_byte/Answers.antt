@@ -3,7 +3,6 @@ use mathlib.Core.Path.{sym}
 use borrow.Author.Tests.{eq-eqb, ne_eqb, lt-ltb, le-ltb}
 use Rattle.dump.specs.Feeding.{byte_rule}
 use Rattle.dump.proofs.Pieces.{pushed_at}
-use borrow.Author.Rules.{rules}
 use Rattle.dump.proofs.feed_byte.Goals as goal
 
 pub returns-then-carried-ne0 : goal.returns-then-carried-ne0

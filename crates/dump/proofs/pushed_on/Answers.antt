@@ -1,5 +1,4 @@
 -- By the push's two answers.
-use borrow.Author.Rules.{rules}
 use Rattle.dump.proofs.pushed_on.Goals as goal
 
 pub returns-in-At : goal.returns-in-At

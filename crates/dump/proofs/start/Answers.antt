@@ -1,5 +1,4 @@
 -- The state is default_index's.
-use borrow.Author.Rules.{rules}
 use Rattle.dump.proofs.start.Goals as goal
 
 pub returns : goal.returns

@@ -1,6 +1,5 @@
 -- The rule's record, field by field.
 use mathlib.Core.Path.{refl}
-use borrow.Author.Rules.{rules}
 use Rattle.push_effect.proofs.grow.Goals as goal
 
 pub returns : goal.returns

@@ -5,7 +5,6 @@ use Rattle.rules.specs.Push.{delta_bytes}
 use Rattle.rules.specs.declared.Pushed.{Pushed}
 use Rattle.laws.proofs.Bytes.{length_bytes}
 use Rattle.delta.proofs.Storing.{stored_from}
-use borrow.Author.Rules.{rules}
 use Rattle.push_effect.proofs.push_delta.Goals as goal
 
 pub returns : goal.returns

@@ -1,6 +1,5 @@
 -- Three stores, each at the first entry not in use; the state is what grow made.
 use mathlib.Core.Path.{refl, ap}
-use borrow.Author.Rules.{rules}
 use Rattle.rules.specs.declared.Pushed.{Pushed}
 use Rattle.push_effect.proofs.start_segment.Goals as goal
 

@@ -2,7 +2,6 @@
 use mathlib.Core.Path.{sym}
 use native.Mathlib.Omega.{arith}
 use Rattle.laws.proofs.Tests.{taken, left}
-use borrow.Author.Rules.{rules}
 use Rattle.push_plan.proofs.data_room.Goals as goal
 
 pub returns : goal.returns

@@ -5,7 +5,6 @@ use Prim.Native.Nat.{◌-◌}
 use Rattle.rules.specs.Push.{first_plan, data_room}
 use Rattle.laws.proofs.Tests.{taken, left, facts_of, refuted_of}
 use Rattle.laws.proofs.Widths.{width_most}
-use borrow.Author.Rules.{rules}
 use Rattle.push_plan.proofs.plan_first.Goals as goal
 
 pub returns-then-v-base : goal.returns-then-v-base

@@ -3,7 +3,6 @@ use mathlib.Core.Path.{sym, ◌∙◌}
 use native.Mathlib.Omega.{arith}
 use Rattle.rules.specs.Push.{next_plan}
 use Rattle.laws.proofs.Tests.{taken, left, facts_of, refuted_of}
-use borrow.Author.Rules.{rules}
 use Rattle.push_plan.proofs.plan_next.Goals as goal
 
 pub returns-then-width-minimum : goal.returns-then-width-minimum

@@ -5,8 +5,6 @@ use borrow.Author.Tests.{eq-eqb, ne_eqb}
 use Rattle.rules.specs.Push.{plan_of}
 use Rattle.laws.proofs.Counts.{counts_facts}
 use Rattle.laws.proofs.Answers.{width_there, width_absent}
-use Rattle.laws.proofs.Tests.{passed, failed}
-use borrow.Author.Rules.{rules}
 use Rattle.push_plan.proofs.plan_push.Goals as goal
 
 pub returns-then-not-counts_hold : goal.returns-then-not-counts_hold

@@ -12,7 +12,6 @@ use Rattle.laws.proofs.Tests.{both}
 use Rattle.range_find.specs.Starts.{Rises}
 use Rattle.range_find.proofs.Known.{known_finds}
 use Rattle.range_find.proofs.Rising.{rises_finds, below_next}
-use borrow.Author.Rules.{rules}
 use Rattle.range_find.proofs.find.Goals as goal
 
 -- the starts rise, and segment k is there

@@ -1,9 +1,7 @@
 -- The invariant: the first i starts never fall. Nothing is promised where the answer is no.
-use Prim.Native.Nat.{◌-◌, ◌≤◌}
 use mathlib.Core.Path.{◌≡◌, refl}
 use native.Mathlib.Omega.{arith}
 use Rattle.laws.proofs.Tests.{false_not_true}
-use Rattle.range_find.specs.Starts.{Rises}
 use Rattle.range_find.proofs.Rising.{rises_more}
 use Rattle.range_find.proofs.rises.Goals as goal
 

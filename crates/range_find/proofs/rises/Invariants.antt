@@ -1,10 +1,6 @@
 -- The invariant: the first i starts never fall. Nothing is promised where the answer is no.
 use Prim.Native.Nat.{◌-◌, ◌≤◌}
-use mathlib.Core.Path.{◌≡◌, refl}
-use native.Mathlib.Omega.{arith}
-use Rattle.laws.proofs.Tests.{false_not_true}
 use Rattle.range_find.specs.Starts.{Rises}
-use Rattle.range_find.proofs.Rising.{rises_more}
 use Rattle.range_find.proofs.rises.Given as goal
 
 abbrev pub invariant-loop-i : goal.invariant-loop-i

@@ -1,9 +1,9 @@
 -- Every position before p gives a value. What a search found, it finds for each position up to `until`.
-use Prim.Native.Nat.{◌-◌, ◌≤◌, ◌<◌}
-use mathlib.Core.Path.{◌≡◌, sym, ap, ◌∙◌}
+use Prim.Native.Nat.{◌-◌}
+use mathlib.Core.Path.{sym, ap, ◌∙◌}
 use native.Mathlib.Omega.{arith}
 use Rattle.rules.specs.declared.Got.{Got}
-use Rattle.rules.specs.Record.{Index, index}
+use Rattle.rules.specs.Record.{index}
 use Rattle.rules.specs.Refusals.{answer_of}
 use Rattle.range_reads.specs.Values.{is_value}
 use Rattle.range_reads.proofs.Deciding.{found_in, get_none, get_here, values_on, values_more, reads_good, reads_bad}

@@ -3,9 +3,7 @@ use mathlib.Core.Path.{sym, ◌∙◌}
 use native.Mathlib.Omega.{arith}
 use borrow.Author.Tests.{leb-true}
 use Rattle.laws.proofs.Answers.{width_there}
-use Rattle.laws.proofs.Tests.{passed}
 use Rattle.range_reads.proofs.Deciding.{sure_none, sure_all}
-use borrow.Author.Rules.{rules}
 use Rattle.range_reads.proofs.sure_until.Goals as goal
 
 pub returns : goal.returns

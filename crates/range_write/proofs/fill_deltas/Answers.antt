@@ -1,10 +1,10 @@
 -- The invariant: the first i sums are put, and the next delta starts i widths after the first.
-use Prim.Native.Nat.{◌+◌, ◌-◌, ◌*◌, ◌≤◌}
+use Prim.Native.Nat.{◌+◌}
 use mathlib.Core.Path.{◌≡◌, refl, ◌∙◌}
 use native.Mathlib.Omega.{arith}
-use lib.ListN.{length, length-set}
+use lib.ListN.{length-set}
 use Rattle.laws.proofs.Bytes.{delta_room}
-use Rattle.range_write.specs.Puts.{puts, sums}
+use Rattle.range_write.specs.Puts.{sums}
 use Rattle.range_write.proofs.Writing.{puts_more, puts_none, next_delta}
 use Rattle.range_write.proofs.fill_deltas.Goals as goal
 

@@ -1,11 +1,8 @@
 -- The invariant: the first i sums are put, and the next delta starts i widths after the first.
 use Prim.Native.Nat.{◌+◌, ◌-◌, ◌*◌, ◌≤◌}
-use mathlib.Core.Path.{◌≡◌, refl, ◌∙◌}
-use native.Mathlib.Omega.{arith}
-use lib.ListN.{length, length-set}
-use Rattle.laws.proofs.Bytes.{delta_room}
+use mathlib.Core.Path.{◌≡◌}
+use lib.ListN.{length}
 use Rattle.range_write.specs.Puts.{puts, sums}
-use Rattle.range_write.proofs.Writing.{puts_more, puts_none, next_delta}
 use Rattle.range_write.proofs.fill_deltas.Given as goal
 
 abbrev pub invariant-deltas : goal.invariant-deltas

@@ -2,7 +2,7 @@
 use Prim.Native.Nat.{ℕ, ◌-◌, ◌≤◌}
 use mathlib.Core.Path.{◌≡◌, refl, sym, ap, ◌∙◌}
 use native.Mathlib.Omega.{arith}
-use Rattle.rules.specs.Record.{Index, index}
+use Rattle.rules.specs.Record.{index}
 use Rattle.laws.proofs.Tests.{false_not_true}
 use Rattle.laws.proofs.Answers.{width_there, width_absent}
 use Rattle.range_write.specs.Puts.{in_segment, puts}

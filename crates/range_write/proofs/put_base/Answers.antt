@@ -1,6 +1,5 @@
 -- Each return gives the next position and what was put, by whether p is the start.
 use borrow.Author.Tests.{eq-eqb, ne_eqb}
-use borrow.Author.Rules.{rules}
 use Rattle.range_write.proofs.put_base.Goals as goal
 
 pub returns-then-p-start : goal.returns-then-p-start

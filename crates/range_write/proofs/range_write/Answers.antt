@@ -3,7 +3,7 @@ use Prim.Native.Nat.{ℕ, ◌-◌}
 use mathlib.Core.Path.{◌≡◌, refl, ap, ◌∙◌}
 use native.Mathlib.Omega.{arith}
 use lib.ListN.{length}
-use Rattle.rules.specs.Record.{Index, index}
+use Rattle.rules.specs.Record.{index}
 use Rattle.range_reads.specs.Values.{Values}
 use Rattle.range_reads.proofs.Deciding.{found_in}
 use Rattle.range_write.specs.Puts.{gets, puts}

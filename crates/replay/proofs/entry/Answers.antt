@@ -1,7 +1,6 @@
 -- The rule's two tests, each decided by its branch.
 use borrow.Author.Tests.{lt-ltb, le-ltb}
 use Rattle.replay.specs.Replaying.{entry_rule}
-use borrow.Author.Rules.{rules}
 use Rattle.replay.proofs.entry.Goals as goal
 
 pub returns-then-n-k : goal.returns-then-n-k

@@ -1,7 +1,6 @@
 -- The rule's kinds in the code's order, each decided by its branch; the contract of the call that is made gives its answer.
 use borrow.Author.Tests.{eq-eqb, ne_eqb}
 use Rattle.replay.specs.Replaying.{find_rule}
-use borrow.Author.Rules.{rules}
 use Rattle.replay.proofs.find_reply.Goals as goal
 
 pub returns-then-kind-eq11 : goal.returns-then-kind-eq11

@@ -1,5 +1,4 @@
 -- One return for each form of the answer.
-use borrow.Author.Rules.{rules}
 use Rattle.replay.proofs.got_reply.Goals as goal
 
 pub returns-in-Value : goal.returns-in-Value

@@ -1,5 +1,4 @@
 -- One return for each form of the answer.
-use borrow.Author.Rules.{rules}
 use Rattle.replay.proofs.pushed.Goals as goal
 
 pub returns-in-At : goal.returns-in-At

@@ -2,7 +2,6 @@
 use borrow.Author.Tests.{eq-eqb, ne_eqb}
 use Rattle.replay.specs.Replaying.{replay_rule}
 use Rattle.replay.proofs.Pushes.{push_played_lem}
-use borrow.Author.Rules.{rules}
 use Rattle.replay.proofs.replay.Goals as goal
 
 pub returns-then-kind-eq1 : goal.returns-then-kind-eq1

@@ -1,7 +1,6 @@
 -- The rule's table numbers in the code's order, each decided by its branch.
 use borrow.Author.Tests.{eq-eqb, ne_eqb}
 use Rattle.replay.specs.Replaying.{table_rule}
-use borrow.Author.Rules.{rules}
 use Rattle.replay.proofs.table_entry.Goals as goal
 
 pub returns-then-t-eq0 : goal.returns-then-t-eq0

@@ -1,5 +1,4 @@
 -- One return for each form of the answer.
-use borrow.Author.Rules.{rules}
 use Rattle.replay.proofs.walked.Goals as goal
 
 pub returns-in-From : goal.returns-in-From

@@ -1,7 +1,6 @@
 -- The rule's one test is what `same` answers.
 use mathlib.Core.Path.{sym, ◌∙◌}
 use Rattle.replay_tally.specs.Tallying.{counted}
-use borrow.Author.Rules.{rules}
 use Rattle.replay_tally.proofs.count.Goals as goal
 
 pub returns-then-same : goal.returns-then-same

@@ -1,5 +1,4 @@
 -- Each field is one word of the record.
-use borrow.Author.Rules.{rules}
 use Rattle.replay_tally.proofs.due_of.Goals as goal
 
 pub returns : goal.returns

@@ -1,7 +1,6 @@
 -- The rule's test, decided by the branch.
 use borrow.Author.Tests.{lt-ltb, le-ltb}
 use Rattle.replay_tally.specs.Tallying.{one_more}
-use borrow.Author.Rules.{rules}
 use Rattle.replay_tally.proofs.one_more.Goals as goal
 
 pub returns-then-n-lt18446744073709551615 : goal.returns-then-n-lt18446744073709551615

@@ -1,5 +1,4 @@
 -- The state is a fresh one; all else is 0.
-use borrow.Author.Rules.{rules}
 use Rattle.replay_tally.proofs.start.Goals as goal
 
 pub returns : goal.returns

@@ -2,7 +2,6 @@
 use borrow.Author.Tests.{lt-ltb, le-ltb}
 use Rattle.replay_tally.specs.Tallying.{take_rule}
 use Rattle.replay_tally.proofs.Takes.{record_taken}
-use borrow.Author.Rules.{rules}
 use Rattle.replay_tally.proofs.take.Goals as goal
 
 pub returns-then-n-lt64 : goal.returns-then-n-lt64

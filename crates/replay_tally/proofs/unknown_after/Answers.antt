@@ -1,7 +1,6 @@
 -- The rule's test, decided by the branch.
 use borrow.Author.Tests.{eq-eqb, ne_eqb}
 use Rattle.replay_tally.specs.Tallying.{unknown_after}
-use borrow.Author.Rules.{rules}
 use Rattle.replay_tally.proofs.unknown_after.Goals as goal
 
 pub returns-then-found-eq2 : goal.returns-then-found-eq2

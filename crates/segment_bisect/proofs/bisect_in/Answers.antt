@@ -4,7 +4,6 @@ use native.Mathlib.Omega.{arith}
 use borrow.Author.Tests.{lt-ltb, le-ltb, le-leb, lt-leb, eq-eqb, ne_eqb}
 use Rattle.rules.specs.Reading.{bisect_in}
 use Rattle.laws.proofs.Answers.{width_there, width_absent}
-use borrow.Author.Rules.{rules}
 use Rattle.segment_bisect.proofs.bisect_in.Goals as goal
 
 pub returns-then-s-start : goal.returns-then-s-start

@@ -6,7 +6,6 @@ use Prim.Native.Nat.{◌-◌, ◌/◌}
 use Rattle.rules.specs.Reading.{delta_below, delta_search}
 use Rattle.laws.proofs.Tests.{taken, left}
 use Rattle.laws.proofs.Halving.{halving_edge}
-use borrow.Author.Rules.{rules}
 use Rattle.segment_bisect.proofs.delta_search.Goals as goal
 
 pub count_below-low-requires : goal.count_below-low-requires

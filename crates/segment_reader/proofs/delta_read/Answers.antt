@@ -5,7 +5,6 @@ use Prim.Native.Nat.{◌+◌, ◌-◌, ◌*◌, ◌≤◌}
 use Rattle.rules.specs.Reading.{delta_read}
 use Rattle.laws.proofs.Tests.{taken, left}
 use Rattle.laws.proofs.Bytes.{room_fits, room_short}
-use borrow.Author.Rules.{rules}
 use Rattle.segment_reader.proofs.delta_read.Goals as goal
 
 pub returns-then-used-offset-2 : goal.returns-then-used-offset-2

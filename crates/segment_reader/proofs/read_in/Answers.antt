@@ -3,7 +3,6 @@ use mathlib.Core.Path.{sym, ◌∙◌}
 use borrow.Author.Tests.{lt-ltb, le-ltb, eq-eqb, ne_eqb}
 use Rattle.rules.specs.Reading.{read_in}
 use Rattle.laws.proofs.Answers.{width_there, width_absent}
-use borrow.Author.Rules.{rules}
 use Rattle.segment_reader.proofs.read_in.Goals as goal
 
 pub returns-then-p-start : goal.returns-then-p-start
