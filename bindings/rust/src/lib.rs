@@ -371,8 +371,8 @@ impl Iterator for Iter<'_> {
 }
 
 impl Iter<'_> {
-    /// Reads ahead and gives the first value. Where one of the values is refused, takes a single step. `walk-as-range` and
-    /// `walk-there` in crates/theorems: what a range answers is what the steps give.
+    /// Reads ahead and gives the first value. Where one of the values is refused, takes a single step. `walk_as_range` and
+    /// `walk_there` in crates/theorems: what a range answers is what the steps give.
     fn read_on(&mut self) -> Option<Result<u64, Refusal>> {
         let Cursor { next, end } = self.cursor;
         let until = end.min(next + AHEAD as u64);
