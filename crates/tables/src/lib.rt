@@ -2,28 +2,47 @@
 #![tactic(auto)]
 
 ghost use Rattle.std.specs.Prelude.{◌≡◌, true, false, ◌≤◌, ltb, length, get_or};
-ghost use Rattle.rules.specs.Words.{when, when_all};
-ghost use Rattle.rules.specs.Record.{index, room_of, state_tests, room_tests, counts_hold};
-ghost use Rattle.rules.specs.Refusals.{width_at};
-ghost use Rattle.tables.specs.Range.{checked_of, check_rule};
+ghost use Rattle.rules.specs.Words.{value, refused, unless, when, when_all};
+ghost use Rattle.rules.specs.Record.{room_of, state_tests, room_tests, counts_hold};
+ghost use Rattle.rules.specs.Reading.{in_range};
+ghost use Rattle.rules.specs.Refusals.{index_of, width_at};
+ghost use Rattle.tables.specs.Counting.{counted_of};
 
-use rules::{Refusal, State, Width};
+mod counts;
+
+pub use counts::Counted;
+use rules::{CompactReader, Refusal, State, Width};
+use std::ops::Range;
+
+// The index, if it keeps the counts rule.
+pub fn check_counts<'a>(x: &'a CompactReader<'a>) -> Result<Counted<'a>, Refusal>
+    ensures { counted_of result ≡ unless (counts_hold (index_of x.now)) (refused 9) (value x.now) }
+{
+    if !counts_hold(x) {
+        return Err(Refusal::Counts);
+    }
+    Ok(Counted { index: x })
+}
+
+// The index, if it keeps the counts rule and the range lies within it.
+pub fn check_range<'a>(x: &'a CompactReader<'a>, range: &Range<u64>) -> Result<Counted<'a>, Refusal>
+    ensures { counted_of result ≡ in_range (index_of x.now) range.now.start range.now.end (value x.now) }
+{
+    let c = check_counts(x)?;
+    if x.state.length < range.end {
+        return Err(Refusal::RangeEnd);
+    }
+    if range.end < range.start {
+        return Err(Refusal::Reversed);
+    }
+    Ok(c)
+}
 
 // Whether the state and the five tables keep the counts rule.
-pub fn counts_hold(
-    s: State,
-    starts: &[u64],
-    bases: &[u64],
-    offsets: &[u64],
-    widths: &[u8],
-    bytes: &[u8],
-) -> bool
-    ensures { result ≡ counts_hold (index s starts.now bases.now offsets.now widths.now bytes.now) }
+pub fn counts_hold(x: &CompactReader<'_>) -> bool
+    ensures { result ≡ counts_hold (index_of x.now) }
 {
-    if !state_holds(s) {
-        return false;
-    }
-    room_holds(s, starts, bases, offsets, widths, bytes)
+    state_holds(x.state) && room_holds(x)
 }
 
 // Whether the five numbers keep the counts rule by themselves.
@@ -57,63 +76,23 @@ pub fn state_holds(s: State) -> bool
 }
 
 // Whether the five tables have the entries that the state counts.
-fn room_holds(
-    s: State,
-    starts: &[u64],
-    bases: &[u64],
-    offsets: &[u64],
-    widths: &[u8],
-    bytes: &[u8],
-) -> bool
-    ensures { result ≡ when_all (room_tests s (room_of (index s starts.now bases.now offsets.now widths.now bytes.now))) true false }
+fn room_holds(x: &CompactReader<'_>) -> bool
+    ensures { result ≡ when_all (room_tests x.now.state (room_of (index_of x.now))) true false }
 {
-    let segments = s.segments;
-    if (starts.len() as u64) < segments {
+    let s = x.state;
+    if (x.starts.len() as u64) < s.segments {
         return false;
     }
-    if (bases.len() as u64) < segments {
+    if (x.bases.len() as u64) < s.segments {
         return false;
     }
-    if (offsets.len() as u64) < segments {
+    if (x.offsets.len() as u64) < s.segments {
         return false;
     }
-    if (widths.len() as u64) < s.widths {
+    if (x.widths.len() as u64) < s.widths {
         return false;
     }
-    s.used <= (bytes.len() as u64)
-}
-
-// What a check answers: good, or why not.
-#[derive(Clone, Copy)]
-pub enum Checked {
-    Good,
-    Refused(Refusal),
-}
-
-// Whether the positions a..b lie within an index that keeps the counts rule.
-pub fn check_range(
-    s: State,
-    starts: &[u64],
-    bases: &[u64],
-    offsets: &[u64],
-    widths: &[u8],
-    bytes: &[u8],
-    a: u64,
-    b: u64,
-) -> Checked
-    ensures { checked_of result ≡ check_rule (index s starts.now bases.now offsets.now widths.now bytes.now) a b }
-{
-    let length = s.length;
-    if !counts_hold(s, starts, bases, offsets, widths, bytes) {
-        return Checked::Refused(Refusal::Counts);
-    }
-    if length < b {
-        return Checked::Refused(Refusal::RangeEnd);
-    }
-    if b < a {
-        return Checked::Refused(Refusal::Reversed);
-    }
-    Checked::Good
+    s.used <= (x.bytes.len() as u64)
 }
 
 // The width of segment k, or that it has none: the state counts the widths.

@@ -8,19 +8,19 @@ use Rattle.tables.proofs.room_holds.Goals as goal
 
 pub returns : goal.returns
 returns c =
-    let a = c.args in
+    let x = c.args.x.now in
     same_test _ _
-    (λ t. let u = leb-true a.s.used (length a.bytes.now) t in taken _ _ _ (omega arith))
-    (λ t. let f = facts_of _ t in le-leb a.s.used (length a.bytes.now) (omega arith))
+    (λ t. let u = leb-true x.state.used (length x.bytes.now) t in taken _ _ _ (omega arith))
+    (λ t. let f = facts_of _ t in le-leb x.state.used (length x.bytes.now) (omega arith))
 
-pub returns-then-starts-segments : goal.returns-then-starts-segments
-returns-then-starts-segments c = sym (left _ _ _ (λ f. omega arith))
+pub returns-then-x-s : goal.returns-then-x-s
+returns-then-x-s c = sym (left _ _ _ (λ f. omega arith))
 
-pub returns-then-bases-segments : goal.returns-then-bases-segments
-returns-then-bases-segments c = sym (left _ _ _ (λ f. omega arith))
+pub returns-then-x-s-2 : goal.returns-then-x-s-2
+returns-then-x-s-2 c = sym (left _ _ _ (λ f. omega arith))
 
-pub returns-then-offsets-segments : goal.returns-then-offsets-segments
-returns-then-offsets-segments c = sym (left _ _ _ (λ f. omega arith))
+pub returns-then-x-s-3 : goal.returns-then-x-s-3
+returns-then-x-s-3 c = sym (left _ _ _ (λ f. omega arith))
 
-pub returns-then-widths-s : goal.returns-then-widths-s
-returns-then-widths-s c = sym (left _ _ _ (λ f. omega arith))
+pub returns-then-x-s-4 : goal.returns-then-x-s-4
+returns-then-x-s-4 c = sym (left _ _ _ (λ f. omega arith))
