@@ -1,9 +1,9 @@
 // An index that is known to keep the counts rule.
 #![tactic(auto)]
 
-ghost use Rattle.std.specs.Prelude.{◌≡◌, true};
-ghost use Rattle.rules.specs.Record.{counts_hold};
+ghost use Rattle.rules.specs.Words.{Facts};
 ghost use Rattle.rules.specs.Refusals.{index_of};
+ghost use Rattle.laws.specs.Orders.{orders_of};
 
 use rules::CompactReader;
 
@@ -11,5 +11,5 @@ use rules::CompactReader;
 #[derive(Clone, Copy)]
 pub struct Counted<'a> {
     pub index: &'a CompactReader<'a>,
-    pub ghost counts: { counts_hold (index_of index.now) ≡ true },
+    pub ghost counts: { Facts (orders_of (index_of index.now)) },
 }
