@@ -5,9 +5,8 @@ use mathlib.Core.Path.{◌≡◌, refl, sym, subst}
 use native.Mathlib.Omega.{arith}
 use lib.ListN.{length, length-set}
 use lib.Seq.{length-sets}
-use Rattle.rules.specs.declared.Room.{Room}
 use Rattle.rules.specs.Words.{Answer, value, refused}
-use Rattle.rules.specs.Record.{Index, length_of, segments_of, widths_of, used_of, room_of}
+use Rattle.rules.specs.Record.{Room, Index, length_of, segments_of, widths_of, used_of, room_of}
 use Rattle.rules.specs.Push.{delta_bytes, Plan, refuse, segment, first, more, plan_of, effect, push_rule}
 use Rattle.rules.specs.Run.{run, if_taken, accepted}
 use Rattle.laws.proofs.Answers.{value_refused}

@@ -1,8 +1,7 @@
 -- What the demands speak of beside the rules: values of 64 bits, room for n values, a walk, a segment's bytes.
 use Rattle.std.specs.Prelude.{ℕ, ◌+◌, ◌-◌, ◌*◌, ◌/◌, ◌^◌, ◌≤◌, ◌<◌, List, [], ◌∷◌, ◌≡◌, take, drop}
-use Rattle.rules.specs.declared.Room.{Room}
 use Rattle.rules.specs.declared.Cursor.{Cursor}
-use Rattle.rules.specs.Record.{Index, mark}
+use Rattle.rules.specs.Record.{Room, Index, mark}
 use Rattle.rules.specs.Reading.{done, gave, step_rule}
 
 -- each value is below 2^64

@@ -1,48 +1,22 @@
 // Whole-table searches over a lent table of u64, each the halving rule with its own test.
 #![tactic(auto)]
 
-ghost use Rattle.std.specs.Prelude.{◌≡◌, ◌≤◌, ◌<◌, min, length};
+ghost use Rattle.std.specs.Prelude.{◌≡◌, ◌<◌, length};
 ghost use Rattle.rules.specs.Reading.{halving, at_most};
 ghost use Rattle.index_stream.specs.Searches.{below, turned, Finds};
 
-// The halving over the first n entries with the test "entry at most v": in a sorted table, how many are at most v.
-pub fn bisect_right(table: &[u64], n: u64, v: u64) -> u64
-    requires { n ≤ length table.now }
-    ensures { result ≡ (halving (at_most table.now v) n).number }
+// The halving over a table with the test "entry at most v": in a sorted table, how many are at most v.
+pub fn bisect_right(table: &[u64], v: u64) -> u64
+    ensures { result ≡ (halving (at_most table.now v) (length table.now)).number }
 {
-    let mut low: u64 = 0;
-    let mut high: u64 = n;
-    loop {
-        if high <= low {
-            break low;
-        }
-        let mid = (low + high) / 2;
-        if table[mid as usize] <= v {
-            low = mid + 1;
-        } else {
-            high = mid;
-        }
-    }
+    halving::halving(table.len() as u64, |i| table[i as usize] <= v)
 }
 
-// The halving over the first n entries with the test "entry below v": in a sorted table, how many are below v.
-pub fn bisect_left(table: &[u64], n: u64, v: u64) -> u64
-    requires { n ≤ length table.now }
-    ensures { result ≡ (halving (below table.now v) n).number }
+// The halving over a table with the test "entry below v": in a sorted table, how many are below v.
+pub fn bisect_left(table: &[u64], v: u64) -> u64
+    ensures { result ≡ (halving (below table.now v) (length table.now)).number }
 {
-    let mut low: u64 = 0;
-    let mut high: u64 = n;
-    loop {
-        if high <= low {
-            break low;
-        }
-        let mid = (low + high) / 2;
-        if table[mid as usize] < v {
-            low = mid + 1;
-        } else {
-            high = mid;
-        }
-    }
+    halving::halving(table.len() as u64, |i| table[i as usize] < v)
 }
 
 // What a search found, and up to where it finds the same.
@@ -53,13 +27,13 @@ pub struct Found {
 }
 
 // bisect_right for v, and the least entry that it turned down, or the limit: it finds the same for every value from v up to there.
-pub fn bisect_right_until(table: &[u64], n: u64, v: u64, limit: u64) -> Found
-    requires { (n ≤ length table.now) × (v < limit) }
-    ensures { Finds table.now n v limit result × (result.until ≡ turned table.now v n limit) }
+pub fn bisect_right_until(table: &[u64], v: u64, limit: u64) -> Found
+    requires { v < limit }
+    ensures { Finds table.now (length table.now) v limit result × (result.until ≡ turned table.now v (length table.now) limit) }
 {
     let mut low: u64 = 0;
-    let mut high: u64 = n;
-    let mut until: u64 = limit;
+    let mut high = table.len() as u64;
+    let mut until = limit;
     loop {
         if high <= low {
             break Found { number: low, until };
@@ -70,17 +44,7 @@ pub fn bisect_right_until(table: &[u64], n: u64, v: u64, limit: u64) -> Found
             low = mid + 1;
         } else {
             high = mid;
-            until = least(entry, until);
+            until = entry.min(until);
         }
     }
-}
-
-// The smaller of two numbers.
-pub fn least(a: u64, b: u64) -> u64
-    ensures { result ≡ min a b }
-{
-    if a < b {
-        return a;
-    }
-    b
 }

@@ -1,9 +1,9 @@
 // What every entry point asks first: the counts rule, a range's bounds, a segment's width, where a segment begins.
 #![tactic(auto)]
 
-ghost use Rattle.std.specs.Prelude.{◌≡◌, true, false, ◌≤◌, ltb, length, get_or};
-ghost use Rattle.rules.specs.Words.{value, refused, unless, when, when_all};
-ghost use Rattle.rules.specs.Record.{room_of, state_tests, room_tests, counts_hold};
+ghost use Rattle.std.specs.Prelude.{◌≡◌, true, false, ◌≤◌, length, get_or};
+ghost use Rattle.rules.specs.Words.{value, refused, unless, when_all};
+ghost use Rattle.rules.specs.Record.{room_of, state_tests, room_tests, counts_hold, edge, mark};
 ghost use Rattle.rules.specs.Reading.{in_range};
 ghost use Rattle.rules.specs.Refusals.{index_of, width_at};
 ghost use Rattle.tables.specs.Counting.{counted_of};
@@ -96,23 +96,37 @@ fn room_holds(x: &CompactReader<'_>) -> bool
 }
 
 // The width of segment k, or that it has none: the state counts the widths.
-pub fn width_of(s: State, widths: &[u8], k: u64) -> Width
-    requires { s.widths ≤ length widths.now }
-    ensures { result ≡ width_at s widths.now k }
+pub fn width_of(x: &CompactReader<'_>, k: u64) -> Width
+    requires { x.now.state.widths ≤ length x.now.widths.now }
+    ensures { result ≡ width_at x.now.state x.now.widths.now k }
 {
-    if k < s.widths {
-        return Width::Of(widths[k as usize]);
+    if k < x.state.widths {
+        return Width::Of(x.widths[k as usize]);
     }
     Width::Absent
 }
 
-// Entry k of the n in use, or `end` for the number after the last: where a segment begins and the one before it ends.
-pub fn entry_or(table: &[u64], n: u64, k: u64, end: u64) -> u64
-    requires { n ≤ length table.now }
-    ensures { result ≡ when (ltb k n) (get_or table.now k 0) end }
+// Entry k of a table, or `end` past them: where a segment begins and the one before it ends.
+pub fn entry_or(table: &[u64], k: u64, end: u64) -> u64
+    ensures { result ≡ get_or table.now k end }
 {
-    if k < n {
-        return table[k as usize];
-    }
-    end
+    table.get(k as usize).copied().unwrap_or(end)
+}
+
+// The position at which segment k begins: its start, or length for the number after the last.
+pub fn edge(x: &CompactReader<'_>, k: u64) -> u64
+    requires { x.now.state.segments ≤ length x.now.starts.now }
+    ensures { result ≡ edge (index_of x.now) k }
+{
+    let segments = x.state.segments as usize;
+    entry_or(&x.starts[..segments], k, x.state.length)
+}
+
+// The data byte at which segment k begins: its offset, or used for the number after the last.
+pub fn mark(x: &CompactReader<'_>, k: u64) -> u64
+    requires { x.now.state.segments ≤ length x.now.offsets.now }
+    ensures { result ≡ mark (index_of x.now) k }
+{
+    let segments = x.state.segments as usize;
+    entry_or(&x.offsets[..segments], k, x.state.used)
 }

@@ -25,7 +25,7 @@ pub loop-high-preserved : goal.loop-high-preserved
 loop-high-preserved c =
     let i = c.loop-high.invariant in
     let t = c.if-entry-v.false in
-    let e = c.least-until.ensures in
+    let e = c.min-until.ensures in
     (omega arith, omega arith, omega arith, omega arith, λ u l h. halfway_down (i.4 u l (omega arith)) (omega arith) (lt-leb _ _ (below_least _ _ e h)), turning_least _ _ _ _ _ (omega arith) t _ e ∙ i.5)
 
 pub returns : goal.returns
