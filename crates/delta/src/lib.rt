@@ -20,11 +20,7 @@ pub fn byte_width(value: u64) -> u64
 pub fn need_of(delta: u64, minimum: u64) -> u64
     ensures { result ≡ need_of delta minimum }
 {
-    let width = byte_width(delta);
-    if width < minimum {
-        return minimum;
-    }
-    width
+    byte_width(delta).max(minimum)
 }
 
 // Stores the low `width` bytes of a delta at the front of `tail`, least significant first.
@@ -74,6 +70,6 @@ pub fn all_fit(base: u64, width: u64) -> bool
     requires { (1 ≤ width) × (width ≤ 8) }
     ensures { result ≡ leb (base + 256 ^ width) (2 ^ 64) }
 {
-    let most: u64 = u64::MAX >> (64 - 8 * width);
+    let most = u64::MAX >> (64 - 8 * width);
     most <= u64::MAX - base
 }
