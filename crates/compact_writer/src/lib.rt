@@ -1,36 +1,38 @@
 // push: its plan, then the plan's effect on the lent tables.
 #![tactic(auto)]
 
-ghost use Rattle.std.specs.Prelude.{◌≡◌};
-ghost use Rattle.rules.specs.Record.{index};
-ghost use Rattle.rules.specs.Push.{push_rule};
-ghost use Rattle.rules.specs.Refusals.{outcome_of};
+ghost use Rattle.std.specs.Prelude.{◌≡◌, ◌+◌, ◌≤◌, ◌<◌, ◌^◌, length};
+ghost use Rattle.rules.specs.Words.{value};
+ghost use Rattle.rules.specs.Push.{with_first, outcome, effect, push_rule};
+ghost use Rattle.rules.specs.Refusals.{index_in, answer_of, SameTables};
+ghost use Rattle.push_plan.specs.Plans.{planned, HasRoom};
 
 use push_plan::Plan;
-use rules::{Pushed, State};
+use rules::{CompactWriter, Refusal};
 
 // Appends the value `v` to the index and answers its position.
-pub fn push(
-    s: State,
-    starts: &mut [u64],
-    bases: &mut [u64],
-    offsets: &mut [u64],
-    widths: &mut [u8],
-    bytes: &mut [u8],
-    v: u64,
-) -> Pushed
-    ensures { outcome_of result starts.new bases.new offsets.new widths.new bytes.new
-        ≡ push_rule (index s starts.old bases.old offsets.old widths.old bytes.old) v }
+#[tactic(auto, unfolding(rules::specs::Push::push_rule))]
+pub fn push(x: &mut CompactWriter<'_>, v: u64) -> Result<u64, Refusal>
+    ensures answers { outcome (answer_of result) (index_in x.new) ≡ push_rule (index_in x.old) v }
+    ensures lent { SameTables x.new x.old }
 {
-    let plan = push_plan::plan_push(s, starts, bases, offsets, widths, bytes, v);
+    let plan = push_plan::plan_push(&x.reader(), v)?;
+    Ok(carry_out(x, plan, v))
+}
+
+// Does what a plan for `v` says and answers the value's position.
+fn carry_out(x: &mut CompactWriter<'_>, plan: Plan, v: u64) -> u64
+    requires { HasRoom (index_in x.old) (planned (Ok plan)) }
+    ensures answers { outcome (value result) (index_in x.new) ≡ effect (index_in x.old) v (planned (Ok plan)) }
+    ensures lent { SameTables x.new x.old }
+{
     match plan {
-        Plan::Refuse(e) => Pushed::Refused(s, e),
-        Plan::Segment => push_effect::start_segment(s, starts, bases, offsets, v),
+        Plan::Segment => push_effect::start_segment(x, v),
         Plan::First(delta, need) => {
-            let count = s.widths;
-            widths[count as usize] = need as u8;
-            push_effect::push_delta(s, bytes, delta, need, count + 1)
+            x.widths[x.state.widths as usize] = need as u8;
+            x.state.widths += 1;
+            push_effect::push_delta(x, delta, need)
         }
-        Plan::More(delta, width) => push_effect::push_delta(s, bytes, delta, width, s.widths),
+        Plan::More(delta, width) => push_effect::push_delta(x, delta, width),
     }
 }
