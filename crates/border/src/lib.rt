@@ -15,7 +15,10 @@ use rules::{CompactWriter, State};
 pub extern "C" fn rotlantern_open(minimum: u64, state: &mut [u64; 5]) -> u64
     ensures { told result (state_at state.new) ≡ telling (open_rule minimum) (state_at state.old) }
 {
-    crossing::tell(compact_index::compact_index(minimum).map(<[u64; 5]>::from), state)
+    crossing::tell(
+        compact_index::compact_index(minimum).map(<[u64; 5]>::from),
+        state,
+    )
 }
 
 // Opens an index with the default minimum width; this is never refused.

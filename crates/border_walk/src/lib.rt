@@ -25,7 +25,10 @@ pub extern "C" fn rotlantern_iter(
     ensures { told result (cursor_at cursor.new) ≡ telling (iter_rule (index (state_at state.now) starts.now bases.now offsets.now widths.now bytes.now) a b) (cursor_at cursor.old) }
 {
     let x = reader(state, starts, bases, offsets, widths, bytes);
-    crossing::tell(compact_iterator::iter(&x, &(a..b)).map(<[u64; 2]>::from), cursor)
+    crossing::tell(
+        compact_iterator::iter(&x, &(a..b)).map(<[u64; 2]>::from),
+        cursor,
+    )
 }
 
 // One step of a walk: done is set to 1 where nothing is left; otherwise to 0, and the value and the moved cursor go where the pointers say.
