@@ -33,7 +33,7 @@ pub record Frame (x : Index) (k until w : ℕ) : Type 0 where
   pub run : Run (between (offset x k) (used_of x) x.bytes) (base x k) w (until - start x k - 1)
 
 -- a delta in the bytes from one up to another is one in all of them
-delta_between : (bytes : List ℕ) (from to at w : ℕ) → from + at + w ≤ to → delta_at (between from to bytes) at w ≡ delta_at bytes (from + at) w
+pub delta_between : (bytes : List ℕ) (from to at w : ℕ) → from + at + w ≤ to → delta_at (between from to bytes) at w ≡ delta_at bytes (from + at) w
 unfolding delta_at
 delta_between bytes from to at zero h = refl
 delta_between bytes from to at (suc w) h =
