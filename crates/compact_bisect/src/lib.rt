@@ -1,73 +1,45 @@
 // Where a value would be ordered, in an index over lent tables, which may be damaged.
 #![tactic(auto)]
 
-ghost use Rattle.std.specs.Prelude.{◌≡◌, ◌≤◌, min, max};
-ghost use Rattle.rules.specs.Record.{index};
+ghost use Rattle.std.specs.Prelude.{◌≡◌};
 ghost use Rattle.rules.specs.Reading.{bisect_rule, bisect_range_rule};
-ghost use Rattle.rules.specs.Refusals.{answer_of};
+ghost use Rattle.rules.specs.Refusals.{answer_of, index_of};
 
-use rules::{Got, Refusal, State};
-use tables::Checked;
+use rules::{CompactReader, Refusal};
+use std::ops::Range;
+use tables::Counted;
 
 // The first position whose value is not below v, or the length if there is none, as halving finds it: exact where the values never fall.
-pub fn bisect_left(
-    s: State,
-    starts: &[u64],
-    bases: &[u64],
-    offsets: &[u64],
-    widths: &[u8],
-    bytes: &[u8],
-    v: u64,
-) -> Got
-    ensures { answer_of result ≡ bisect_rule (index s starts.now bases.now offsets.now widths.now bytes.now) v }
+#[tactic(auto, unfolding(rules::specs::Reading::bisect_rule))]
+pub fn bisect_left(x: &CompactReader<'_>, v: u64) -> Result<u64, Refusal>
+    ensures { answer_of result ≡ bisect_rule (index_of x.now) v }
 {
-    if !tables::counts_hold(s, starts, bases, offsets, widths, bytes) {
-        return Got::Refused(Refusal::Counts);
+    bisect_counted(tables::check_counts(x)?, v)
+}
+
+// The answer of bisect_left, raised to at least the range's start and lowered to at most its end.
+#[tactic(auto, unfolding(rules::specs::Reading::bisect_range_rule))]
+pub fn bisect_range_left(x: &CompactReader<'_>, range: &Range<u64>, v: u64) -> Result<u64, Refusal>
+    ensures { answer_of result ≡ bisect_range_rule (index_of x.now) range.now.start range.now.end v }
+{
+    let c = tables::check_range(x, range)?;
+    let k = bisect_counted(c, v)?;
+    Ok(k.clamp(range.start, range.end))
+}
+
+// The answer of bisect_left in an index that keeps the counts rule.
+#[tactic(auto, using(laws::proofs::InUse::halving_in_use, laws::proofs::Halving::halving_edge, laws::proofs::Counts::facts_counts), unfolding(rules::specs::Reading::bisect_rule, rules::specs::Reading::bases_up_to))]
+fn bisect_counted(x: Counted<'_>, v: u64) -> Result<u64, Refusal>
+    ensures { answer_of result ≡ bisect_rule (index_of x.entry.index.now) v }
+{
+    let index = x.index;
+    if index.state.length == 0 {
+        return Ok(0);
     }
-    if s.length == 0 {
-        return Got::Value(0);
-    }
-    let k = index_stream::bisect_right(bases, s.segments, v);
+    let in_use = &index.bases[..index.state.segments as usize];
+    let k = index_stream::bisect_right(in_use, v);
     if k == 0 {
-        return Got::Value(0);
+        return Ok(0);
     }
-    segment_bisect::bisect_in(s, starts, bases, offsets, widths, bytes, k - 1, v)
-}
-
-// The answer of bisect_left, raised to at least a and lowered to at most b.
-pub fn bisect_range_left(
-    s: State,
-    starts: &[u64],
-    bases: &[u64],
-    offsets: &[u64],
-    widths: &[u8],
-    bytes: &[u8],
-    a: u64,
-    b: u64,
-    v: u64,
-) -> Got
-    ensures { answer_of result ≡ bisect_range_rule (index s starts.now bases.now offsets.now widths.now bytes.now) a b v }
-{
-    let checked = tables::check_range(s, starts, bases, offsets, widths, bytes, a, b);
-    if let Checked::Refused(e) = checked {
-        return Got::Refused(e);
-    }
-    match bisect_left(s, starts, bases, offsets, widths, bytes, v) {
-        Got::Value(k) => Got::Value(clamp(k, a, b)),
-        Got::Refused(e) => Got::Refused(e),
-    }
-}
-
-// k, raised to at least a and lowered to at most b.
-fn clamp(k: u64, a: u64, b: u64) -> u64
-    requires { a ≤ b }
-    ensures { result ≡ min b (max a k) }
-{
-    if k < a {
-        return a;
-    }
-    if b < k {
-        return b;
-    }
-    k
+    segment_bisect::bisect_in(x, k - 1, v)
 }

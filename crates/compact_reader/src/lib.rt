@@ -1,117 +1,78 @@
 // Reads of an index over lent tables, which may be damaged.
 #![tactic(auto)]
 
-ghost use Rattle.std.specs.Prelude.{◌≡◌};
-ghost use Rattle.rules.specs.Record.{index};
+ghost use Rattle.std.specs.Prelude.{◌≡◌, ◌≤◌};
 ghost use Rattle.rules.specs.Push.{length_rule, size_rule};
-ghost use Rattle.rules.specs.Reading.{get_rule, target_end, target_rule};
-ghost use Rattle.rules.specs.Refusals.{answer_of, target_of};
+ghost use Rattle.rules.specs.Reading.{starts_up_to, get_rule, target_end, target_rule};
+ghost use Rattle.rules.specs.Refusals.{index_of, answer_of, target_of};
 
-use rules::{Got, Refusal, State, Target};
+use rules::{CompactReader, Refusal};
+use std::ops::Range;
+use tables::Counted;
 
 // How many values the index holds.
-pub fn length(
-    s: State,
-    starts: &[u64],
-    bases: &[u64],
-    offsets: &[u64],
-    widths: &[u8],
-    bytes: &[u8],
-) -> Got
-    ensures { answer_of result ≡ length_rule (index s starts.now bases.now offsets.now widths.now bytes.now) }
+#[tactic(auto, unfolding(rules::specs::Push::length_rule))]
+pub fn length(x: &CompactReader<'_>) -> Result<u64, Refusal>
+    ensures { answer_of result ≡ length_rule (index_of x.now) }
 {
-    if tables::counts_hold(s, starts, bases, offsets, widths, bytes) {
-        return Got::Value(s.length);
-    }
-    Got::Refused(Refusal::Counts)
+    tables::check_counts(x)?;
+    Ok(x.state.length)
 }
 
 // How many bytes the index takes: three numbers a segment, its widths and its data.
-pub fn size(
-    s: State,
-    starts: &[u64],
-    bases: &[u64],
-    offsets: &[u64],
-    widths: &[u8],
-    bytes: &[u8],
-) -> Got
-    ensures { answer_of result ≡ size_rule (index s starts.now bases.now offsets.now widths.now bytes.now) }
+#[tactic(auto, unfolding(rules::specs::Push::size_rule))]
+pub fn size(x: &CompactReader<'_>) -> Result<u64, Refusal>
+    ensures { answer_of result ≡ size_rule (index_of x.now) }
 {
-    if !tables::counts_hold(s, starts, bases, offsets, widths, bytes) {
-        return Got::Refused(Refusal::Counts);
-    }
-    Got::Value(24 * s.segments + s.widths + s.used)
+    let s = tables::check_counts(x)?.index.state;
+    Ok(24 * s.segments + s.widths + s.used)
 }
 
 // The value at position p.
-pub fn get(
-    s: State,
-    starts: &[u64],
-    bases: &[u64],
-    offsets: &[u64],
-    widths: &[u8],
-    bytes: &[u8],
-    p: u64,
-) -> Got
-    ensures { answer_of result ≡ get_rule (index s starts.now bases.now offsets.now widths.now bytes.now) p }
+#[tactic(auto, unfolding(rules::specs::Reading::get_rule))]
+pub fn get(x: &CompactReader<'_>, p: u64) -> Result<u64, Refusal>
+    ensures { answer_of result ≡ get_rule (index_of x.now) p }
 {
-    if !tables::counts_hold(s, starts, bases, offsets, widths, bytes) {
-        return Got::Refused(Refusal::Counts);
+    let counted = tables::check_counts(x)?;
+    if x.state.length <= p {
+        return Err(Refusal::Position);
     }
-    if s.length <= p {
-        return Got::Refused(Refusal::Position);
-    }
-    let k = index_stream::bisect_right(starts, s.segments, p);
+    let k = starts_up_to(counted, p);
     if k == 0 {
-        return Got::Refused(Refusal::Damaged);
+        return Err(Refusal::Damaged);
     }
-    segment_reader::read_in(s, starts, bases, offsets, widths, bytes, k - 1, p)
+    segment_reader::read_in(counted, k - 1, p)
+}
+
+// The number that halving over starts for p finds: of a sound index, the segments that start at p or before.
+#[tactic(auto, unfolding(rules::specs::Reading::starts_up_to))]
+fn starts_up_to(x: Counted<'_>, p: u64) -> u64
+    ensures found { result ≡ starts_up_to (index_of x.entry.index.now) p }
+    ensures within { result ≤ x.entry.index.now.state.segments }
+{
+    let segments = x.index.state.segments as usize;
+    index_stream::bisect_right(&x.index.starts[..segments], p)
 }
 
 // The target of position p, where t is the end of the last one: from the value at p to the smaller of the next value and t.
-pub fn target_range(
-    s: State,
-    starts: &[u64],
-    bases: &[u64],
-    offsets: &[u64],
-    widths: &[u8],
-    bytes: &[u8],
-    p: u64,
-    t: u64,
-) -> Target
-    ensures { target_of result ≡ target_rule (index s starts.now bases.now offsets.now widths.now bytes.now) p t }
+#[tactic(auto, unfolding(rules::specs::Reading::target_rule))]
+pub fn target_range(x: &CompactReader<'_>, p: u64, t: u64) -> Result<Range<u64>, Refusal>
+    ensures { target_of result ≡ target_rule (index_of x.now) p t }
 {
-    match get(s, starts, bases, offsets, widths, bytes, p) {
-        Got::Value(from) => match target_end(s, starts, bases, offsets, widths, bytes, p, t) {
-            Got::Value(to) => Target::Range(from, to),
-            Got::Refused(e) => Target::Refused(e),
-        },
-        Got::Refused(e) => Target::Refused(e),
-    }
+    Ok(get(x, p)?..target_end(x, p, t)?)
 }
 
 // Where the target of position p ends: t for the last position, otherwise the smaller of the next value and t.
-fn target_end(
-    s: State,
-    starts: &[u64],
-    bases: &[u64],
-    offsets: &[u64],
-    widths: &[u8],
-    bytes: &[u8],
-    p: u64,
-    t: u64,
-) -> Got
-    ensures { answer_of result ≡ target_end (index s starts.now bases.now offsets.now widths.now bytes.now) p t }
+#[tactic(auto, unfolding(rules::specs::Reading::target_end))]
+fn target_end(x: &CompactReader<'_>, p: u64, t: u64) -> Result<u64, Refusal>
+    ensures { answer_of result ≡ target_end (index_of x.now) p t }
 {
-    let length = s.length;
+    let length = x.state.length;
     if length < 2 {
-        return Got::Value(t);
+        return Ok(t);
     }
     if length - 2 < p {
-        return Got::Value(t);
+        return Ok(t);
     }
-    match get(s, starts, bases, offsets, widths, bytes, p + 1) {
-        Got::Value(next) => Got::Value(index_stream::least(next, t)),
-        Got::Refused(e) => Got::Refused(e),
-    }
+    Ok(get(x, p + 1)?.min(t))
 }

@@ -2,35 +2,38 @@
 #![tactic(auto)]
 
 ghost use Rattle.std.specs.Prelude.{◌≡◌};
-ghost use Rattle.rules.specs.Record.{index};
-ghost use Rattle.rules.specs.Push.{push_rule};
-ghost use Rattle.rules.specs.Refusals.{outcome_of};
+ghost use Rattle.rules.specs.Push.{outcome, push_rule};
+ghost use Rattle.rules.specs.Refusals.{index_of, index_in, answer_of, SameTables};
 
 use push_plan::Plan;
-use rules::{Pushed, State};
+use rules::{CompactReader, CompactWriter, Refusal};
 
 // Appends the value `v` to the index and answers its position.
-pub fn push(
-    s: State,
-    starts: &mut [u64],
-    bases: &mut [u64],
-    offsets: &mut [u64],
-    widths: &mut [u8],
-    bytes: &mut [u8],
-    v: u64,
-) -> Pushed
-    ensures { outcome_of result starts.new bases.new offsets.new widths.new bytes.new
-        ≡ push_rule (index s starts.old bases.old offsets.old widths.old bytes.old) v }
+pub fn push(x: &mut CompactWriter<'_>, v: u64) -> Result<u64, Refusal>
+    ensures answers { outcome (answer_of result) (index_in x.new) ≡ push_rule (index_in x.old) v }
+    ensures lent { SameTables x.new x.old }
 {
-    let plan = push_plan::plan_push(s, starts, bases, offsets, widths, bytes, v);
-    match plan {
-        Plan::Refuse(e) => Pushed::Refused(s, e),
-        Plan::Segment => push_effect::start_segment(s, starts, bases, offsets, v),
+    match push_plan::plan_push(&reader(x), v)? {
+        Plan::Segment => Ok(push_effect::start_segment(x, v)),
         Plan::First(delta, need) => {
-            let count = s.widths;
-            widths[count as usize] = need as u8;
-            push_effect::push_delta(s, bytes, delta, need, count + 1)
+            x.widths[x.state.widths as usize] = need as u8;
+            x.state.widths += 1;
+            Ok(push_effect::push_delta(x, delta, need))
         }
-        Plan::More(delta, width) => push_effect::push_delta(s, bytes, delta, width, s.widths),
+        Plan::More(delta, width) => Ok(push_effect::push_delta(x, delta, width)),
+    }
+}
+
+// The index that is written, to read.
+fn reader<'a>(x: &'a CompactWriter<'_>) -> CompactReader<'a>
+    ensures { index_of result ≡ index_in x.now }
+{
+    CompactReader {
+        state: x.state,
+        starts: x.starts,
+        bases: x.bases,
+        offsets: x.offsets,
+        widths: x.widths,
+        bytes: x.bytes,
     }
 }

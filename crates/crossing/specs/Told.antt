@@ -1,21 +1,9 @@
 -- What a C caller sees of a call: a number that is 0 where it is answered, and what stands behind the pointers afterwards.
-use Rattle.std.specs.Prelude.{ℕ, List, get_or}
-use Rattle.rules.specs.declared.State.{State}
+use Rattle.std.specs.Prelude.{ℕ}
 use Rattle.rules.specs.declared.Cursor.{Cursor}
-use Rattle.rules.specs.declared.Pushed.{Pushed}
 use Rattle.rules.specs.Words.{Answer, value, refused}
-use Rattle.rules.specs.Record.{state}
-use Rattle.rules.specs.Reading.{cursor, Stepped, done, gave, stays}
-use Rattle.rules.specs.Refusals.{number_of}
-use Rattle.rules.specs.Audit.{Letter, A, B, C, D, E, F, Verdict, well_formed, flaw}
-
--- the state of five numbers, in the order minimum, length, segments, widths, used
-abbrev pub state_at : List ℕ → State
-state_at l = state (get_or l 0 0) (get_or l 1 0) (get_or l 2 0) (get_or l 3 0) (get_or l 4 0)
-
--- the cursor of two numbers, in the order next, end
-abbrev pub cursor_at : List ℕ → Cursor
-cursor_at l = cursor (get_or l 0 0) (get_or l 1 0)
+use Rattle.rules.specs.Reading.{Stepped, done, gave, stays}
+use Rattle.rules.specs.Audit.{letter_number, Verdict, well_formed, flaw}
 
 -- 0 or a refusal's number, and what stands behind the pointers
 pub record Told (A : Type 0) : Type 0 where
@@ -30,16 +18,6 @@ told n a = record { number = n; behind = a }
 abbrev pub telling : {A : Type 0} → Answer A → A → Told A
 telling (value a) old = told 0 a
 telling (refused e) old = told e old
-
--- what a push answers
-abbrev pub pushed_answer : Pushed → Answer ℕ
-pushed_answer (Pushed.At s p) = value p
-pushed_answer (Pushed.Refused s e) = refused (number_of e)
-
--- the state that a push returns
-abbrev pub pushed_state : Pushed → State
-pushed_state (Pushed.At s p) = s
-pushed_state (Pushed.Refused s e) = s
 
 -- what stands behind a step's pointers: the cursor, the value, and 1 where the walk is done, else 0
 pub record Walked : Type 0 where
@@ -56,15 +34,6 @@ abbrev pub step_telling : Stepped → Walked → Told Walked
 step_telling done old = told 0 (walked old.at old.item 1)
 step_telling (gave v c) old = told 0 (walked c v 0)
 step_telling (stays e c) old = told e (walked c old.item old.ended)
-
--- the audit's letter as a number, 1 for A to 6 for F
-abbrev pub letter_number : Letter → ℕ
-letter_number A = 1
-letter_number B = 2
-letter_number C = 3
-letter_number D = 4
-letter_number E = 5
-letter_number F = 6
 
 -- the audit's letter and segment behind the pointers; well formed is 0 and 0
 pub record Found : Type 0 where

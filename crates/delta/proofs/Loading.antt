@@ -1,42 +1,67 @@
 -- Loading: a delta grows by one byte in front; eight bytes cut to the width are the delta; one law over the width for every cut.
 use Prim.Native.Nat.{ℕ, zero, suc, ◌+◌, ◌-◌, ◌*◌, ◌/◌, ◌%◌, ◌^◌, ◌≤◌, ◌<◌}
-use mathlib.Core.List.{List}
-use mathlib.Core.Path.{◌≡◌, sym, ap, ◌∙◌}
+use mathlib.Core.List.{List, [], ◌∷◌, reverse}
+use mathlib.Core.Path.{◌≡◌, refl, sym, ap, ◌∙◌}
 use native.Mathlib.Numerals.{add-one}
 use native.Mathlib.Omega.{arith}
-use native.Mathlib.Nat.{pow-suc, pow-le-pow_right, one-le-pow, lt_of_lt_of_le, mod-lt, mod-one, mod-eq_of_lt, mod-add-div, add-mul-mod_self_left, add-mul, mul_assoc, mul_comm, mul-div_cancel, le-div_iff_mul-le, div-lt_iff_lt-mul}
+use native.Mathlib.Nat.{add-suc, pow-suc, pow-le-pow_right, one-le-pow, mod-lt, mod-one, mod-eq_of_lt, mod-add-div, add-mul-mod_self_left, add-mul, mul_assoc, mul_comm, mul-div_cancel, le-div_iff_mul-le, div-lt_iff_lt-mul}
 use lib.Dec.{lit<, leb}
-use lib.ListN.{length, get_or}
+use lib.Bits.{bit_or}
+use lib.ListN.{length, get_or, take, drop}
 use lib.Pow.{pow-add}
 use borrow.Author.Tests.{leb-true, leb-false, le-leb, lt-leb}
+use Rattle.std.specs.List.{fold}
+use Rattle.std.specs.Int.{w64, from_le_bytes}
+use Rattle.std.proofs.lemmas.List.{get_or-drop, get_or-take, reverse-append}
+use Rattle.std.proofs.lemmas.List.Sums.{fold_push}
+use Rattle.std.proofs.lemmas.Nat.{or_shifted}
 use Rattle.rules.specs.Push.{delta_at}
 use Rattle.laws.proofs.Tests.{by_test}
 use Rattle.laws.proofs.Widths.{bytes_pow}
-use Rattle.laws.proofs.Bytes.{delta_room}
+use Rattle.laws.proofs.Bytes.{delta_room, delta_at_below}
 
 -- one byte more, in front
 delta_grow : (s : List ℕ) (at k : ℕ) → delta_at s at (k + 1) ≡ delta_at s (at + 1) k * 256 + get_or s at 0
 unfolding delta_at
 delta_grow s at k = rw (add-one k, add-one at, delta_at) (omega arith)
 
--- the turn of a loop that goes from the last of w bytes to the first, with v made of those from i on
-module _ (s : List ℕ) (at w i v : ℕ) (pos : 0 < i) (le : i ≤ w) where
-  -- the byte before makes the next value
-  pub delta_turn : v ≡ delta_at s (at + i) (w - i) → v * 256 + get_or s (at + (i - 1)) 0 ≡ delta_at s (at + (i - 1)) (w - (i - 1))
-  delta_turn e =
-      let e1 : w - (i - 1) ≡ (w - i) + 1 = omega arith in
-      let e2 : at + (i - 1) + 1 ≡ at + i = omega arith in
-      rw (e1, delta_grow s (at + (i - 1)) (w - i), e2, e)
+-- a part's deltas are the whole's
+pub delta_drop : (s : List ℕ) (from at k : ℕ) → delta_at (drop from s) at k ≡ delta_at s (from + at) k
+unfolding delta_at
+delta_drop s from at zero = refl
+delta_drop s from at (suc k) = rw (get_or-drop, delta_drop s from (suc at) k, add-suc) refl
 
-  -- which is below 256 to the number of its bytes
-  pub below_turn : (b : ℕ) → v < 256 ^ (w - i) → b < 256 → v * 256 + b < 256 ^ (w - (i - 1))
-  below_turn b hv hb =
-      let e1 : w - (i - 1) ≡ suc (w - i) = omega arith in
-      rw (e1, pow-suc 256 (w - i)) (omega arith)
+-- the number that some bytes make, of those that stand first the rest's, and one byte in front
+number_front : (b : ℕ) (s : List ℕ) → delta_at (b ∷ s) 0 (length (b ∷ s)) ≡ delta_at s 0 (length s) * 256 + b
+unfolding delta_at
+number_front b s = rw (← delta_drop (b ∷ s) 1 0 (length s)) (omega arith)
 
--- up to 8 bytes fit 64 bits
-pub below_fits : (k v : ℕ) → k ≤ 8 → v < 256 ^ k → v < 2 ^ 64
-below_fits k v hk hv = lt_of_lt_of_le hv (pow-le-pow_right {n = 256} (lit< tt) hk)
+-- one byte more, shifted in
+abbrev pub shift_in : ℕ → ℕ → ℕ
+shift_in v b = bit_or (v * 256 % 18446744073709551616) b
+
+-- it is one byte in front, where fewer than eight are there
+shift_step : (k v b : ℕ) → k < 8 → v < 256 ^ k → b < 256 → shift_in v b ≡ v * 256 + b
+shift_step k v b h below hb =
+    let most : 256 ^ suc k ≤ 256 ^ 8 = pow-le-pow_right {n = 256} (lit< tt) h in
+    let fits : v * 256 < 18446744073709551616 = omega (arith, pow-suc 256 k) in
+    ap (λ z. bit_or z b) (mod-eq_of_lt fits) ∙ or_shifted v 8 b hb
+
+-- the bytes shifted in from the last to the first make the number
+pub shifted_in : (s : List ℕ) → length s ≤ 8 → ((i : ℕ) → i < length s → get_or s i 0 < 256) → fold shift_in 0 (reverse s) ≡ delta_at s 0 (length s)
+unfolding delta_at
+shifted_in [] h b = refl
+shifted_in (x ∷ s) h b =
+    let below = delta_at_below s (length s) (length s) 0 (λ i l. b (suc i) (omega arith)) (omega arith) in
+    rw (reverse-append (x ∷ []) s, fold_push, shifted_in s (omega arith) (λ i l. b (suc i) (omega arith)), number_front x s)
+    (shift_step (length s) (delta_at s 0 (length s)) x (omega arith) below (b 0 (omega arith)))
+
+-- eight bytes at once
+pub eight_at_once : (s : List ℕ) → from_le_bytes w64 (take 8 s) ≡ delta_at s 0 8
+unfolding delta_at
+eight_at_once s =
+    let same : (i : ℕ) → i < 8 → get_or (take 8 s) i 0 ≡ get_or s i 0 = λ i h. get_or-take 8 s i 0 h in
+    omega (arith, same)
 
 -- a remainder by a multiple of k keeps what is below k
 mod_scale : (q b M k : ℕ) → 0 < M → b < k → (q * k + b) % (M * k) ≡ q % M * k + b

@@ -1,7 +1,7 @@
 // Deltas: the width that one needs, and storing, loading and searching deltas of one to eight bytes, least significant byte first.
 #![tactic(auto)]
 
-ghost use Rattle.std.specs.Prelude.{◌≡◌, ◌+◌, ◌*◌, ◌^◌, ◌≤◌, leb, length};
+ghost use Rattle.std.specs.Prelude.{◌≡◌, ◌+◌, ◌*◌, ◌^◌, ◌≤◌, min, leb, length};
 ghost use Rattle.std.proofs.lemmas.List.Edits.{sets};
 ghost use Rattle.rules.specs.Push.{byte_width, need_of, delta_bytes, delta_at};
 ghost use Rattle.rules.specs.Reading.{delta_below, halving};
@@ -20,11 +20,7 @@ pub fn byte_width(value: u64) -> u64
 pub fn need_of(delta: u64, minimum: u64) -> u64
     ensures { result ≡ need_of delta minimum }
 {
-    let width = byte_width(delta);
-    if width < minimum {
-        return minimum;
-    }
-    width
+    byte_width(delta).max(minimum)
 }
 
 // Stores the low `width` bytes of a delta at the front of `tail`, least significant first.
@@ -33,11 +29,9 @@ pub fn store_delta(tail: &mut [u8], delta: u64, width: u64)
     ensures { tail.new ≡ sets tail.old 0 (delta_bytes width delta) }
 {
     let mut rest = delta;
-    let mut i: u64 = 0;
-    while i < width {
+    for i in 0..width {
         tail[i as usize] = (rest % 256) as u8;
-        rest = rest / 256;
-        i += 1;
+        rest /= 256;
     }
 }
 
@@ -47,24 +41,20 @@ pub fn delta_at(bytes: &[u8], at: u64, width: u64) -> u64
     ensures { result ≡ delta_at bytes.now at width }
 {
     let cut = 64 - 8 * width;
-    if at + 8 <= bytes.len() as u64 {
-        return load(bytes, at, 8) << cut >> cut;
-    }
-    load(bytes, at, bytes.len() as u64 - at) << cut >> cut
+    load(&bytes[at as usize..]) << cut >> cut
 }
 
-// The number that `width` bytes from `at` on make, taken from the last to the first.
-fn load(bytes: &[u8], at: u64, width: u64) -> u64
-    requires { (width ≤ 8) × (at + width ≤ length bytes.now) }
-    ensures { result ≡ delta_at bytes.now at width }
+// The number that the first eight bytes make, or all if there are fewer, least significant first.
+fn load(bytes: &[u8]) -> u64
+    ensures { result ≡ delta_at bytes.now 0 (min 8 (length bytes.now)) }
 {
-    let mut value: u64 = 0;
-    let mut i = width;
-    while 0 < i {
-        i -= 1;
-        value = value * 256 + bytes[(at + i) as usize] as u64;
+    match bytes.first_chunk() {
+        Some(eight) => u64::from_le_bytes(*eight),
+        None => bytes
+            .iter()
+            .rev()
+            .fold(0, |value, byte| value << 8 | *byte as u64),
     }
-    value
 }
 
 // The halving over the n deltas from `from` on, with the test "delta below gap".
@@ -72,19 +62,7 @@ pub fn count_below(bytes: &[u8], from: u64, width: u64, n: u64, gap: u64) -> u64
     requires { (1 ≤ width) × (width ≤ 8) × (from + n * width ≤ length bytes.now) }
     ensures { result ≡ (halving (delta_below bytes.now from width gap) n).number }
 {
-    let mut low: u64 = 0;
-    let mut high: u64 = n;
-    loop {
-        if high <= low {
-            break low;
-        }
-        let mid = (low + high) / 2;
-        if delta_at(bytes, from + mid * width, width) < gap {
-            low = mid + 1;
-        } else {
-            high = mid;
-        }
-    }
+    halving::halving(n, |i| delta_at(bytes, from + i * width, width) < gap)
 }
 
 // Whether the base and any delta of this width make a sum that fits 64 bits.
@@ -92,6 +70,6 @@ pub fn all_fit(base: u64, width: u64) -> bool
     requires { (1 ≤ width) × (width ≤ 8) }
     ensures { result ≡ leb (base + 256 ^ width) (2 ^ 64) }
 {
-    let most: u64 = 18446744073709551615 >> (64 - 8 * width);
-    most <= 18446744073709551615 - base
+    let most = u64::MAX >> (64 - 8 * width);
+    most <= u64::MAX - base
 }

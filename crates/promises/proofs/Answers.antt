@@ -3,19 +3,17 @@ use Prim.Native.Nat.{ℕ, ◌<◌}
 use mathlib.Core.List.{List}
 use mathlib.Core.Logic.{◌↔◌}
 use mathlib.Core.Path.{◌≡◌, refl, sym, ap, ◌∙◌}
-use Rattle.rules.specs.declared.State.{State}
+use Rattle.std.specs.Prelude.{Err}
+use Rattle.std.specs.declared.result.Result.{Result}
+use Rattle.std.specs.declared.option.Option.{Option}
+use Rattle.std.specs.declared.ops.Range.{Range}
 use Rattle.rules.specs.declared.Cursor.{Cursor}
 use Rattle.rules.specs.declared.Refusal.{Refusal}
-use Rattle.rules.specs.declared.Opened.{Opened}
-use Rattle.rules.specs.declared.Got.{Got}
-use Rattle.rules.specs.declared.Target.{Target}
-use Rattle.rules.specs.declared.Walk.{Walk}
-use Rattle.rules.specs.declared.Step.{Step}
 use Rattle.rules.specs.Words.{Answer, refused}
 use Rattle.rules.specs.Record.{Index}
 use Rattle.rules.specs.Push.{outcome, push_rule}
 use Rattle.rules.specs.Reading.{Span, ranged, stays, range_rule, step_rule}
-use Rattle.rules.specs.Refusals.{number_of, opened_of, answer_of, target_of, walk_of, step_of}
+use Rattle.rules.specs.Refusals.{number_of, answer_of, target_of, step_of}
 use Rattle.promises.specs.Sentences.{Sentence, Given, Exactly}
 use Rattle.promises.specs.Table.{push_table, get_table, range_table}
 use Rattle.promises.specs.Outcomes.{One, PushLeft, push_says, push_unchanged, RangeLeft, range_says, range_unchanged}
@@ -23,7 +21,7 @@ use Rattle.promises.proofs.Deciding.{exactly}
 use Rattle.promises.proofs.Push.{push_decided}
 use Rattle.promises.proofs.Reading.{range_decided}
 use Rattle.promises.proofs.Steps.{step_decided}
-use Rattle.promises.proofs.One.{one_opened, one_got, one_targeted, one_walk, one_stepped, one_pushed, one_ranged}
+use Rattle.promises.proofs.One.{one_answer, one_targeted, one_stepped, one_pushed, one_ranged}
 use Rattle.promises.proofs.Stays.{push_refused, range_refused}
 
 -- an outcome is the refusal exactly when its number e is given: where the rule refuses e, the rule is what the refusal says
@@ -36,21 +34,13 @@ refuses says answer_in refusal e single q as-was exact c promise = (
 )
 
 module _ {t : List Sentence} (e : Refusal) where
-  -- opening an index
-  pub opened_refuses : {rule : Answer State} → Exactly t rule → (c : Opened) → opened_of c ≡ rule → (c ≡ Opened.Refused e) ↔ Given t (number_of e)
-  opened_refuses = refuses opened_of (λ a. a) (Opened.Refused e) (number_of e) (one_opened _) refl (λ q. q)
-
-  -- a call for one number
-  pub got_refuses : {rule : Answer ℕ} → Exactly t rule → (c : Got) → answer_of c ≡ rule → (c ≡ Got.Refused e) ↔ Given t (number_of e)
-  got_refuses = refuses answer_of (λ a. a) (Got.Refused e) (number_of e) (one_got _) refl (λ q. q)
+  -- opening an index or a walk, and a call for one number
+  pub answer_refuses : {A : Type 0} {rule : Answer A} → Exactly t rule → (c : Result A Refusal) → answer_of c ≡ rule → (c ≡ Err e) ↔ Given t (number_of e)
+  answer_refuses = refuses answer_of (λ a. a) (Err e) (number_of e) (one_answer _) refl (λ q. q)
 
   -- target_range
-  pub target_refuses : {rule : Answer Span} → Exactly t rule → (c : Target) → target_of c ≡ rule → (c ≡ Target.Refused e) ↔ Given t (number_of e)
-  target_refuses = refuses target_of (λ a. a) (Target.Refused e) (number_of e) (one_targeted _) refl (λ q. q)
-
-  -- opening a walk
-  pub walk_refuses : {rule : Answer Cursor} → Exactly t rule → (c : Walk) → walk_of c ≡ rule → (c ≡ Walk.Refused e) ↔ Given t (number_of e)
-  walk_refuses = refuses walk_of (λ a. a) (Walk.Refused e) (number_of e) (one_walk _) refl (λ q. q)
+  pub target_refuses : {rule : Answer Span} → Exactly t rule → (c : Result (Range ℕ) Refusal) → target_of c ≡ rule → (c ≡ Err e) ↔ Given t (number_of e)
+  target_refuses = refuses target_of (λ a. a) (Err e) (number_of e) (one_targeted _) refl (λ q. q)
 
 -- a push: the refusal comes with the state and every entry of the five tables as they were
 pub push_refuses : (x : Index) (v : ℕ) (e : Refusal) (c : PushLeft) → push_says c ≡ push_rule x v → (c ≡ push_unchanged x e) ↔ Given (push_table x v) (number_of e)
@@ -67,10 +57,10 @@ range_refuses x a b out e =
     (λ q. ap (λ r. ranged r (range_rule x a b out).left) q ∙ ap (ranged (refused (number_of e))) (range_refused x a b out (number_of e) q))
     (exactly (range_decided x a b out))
 
--- a step: the refusal comes with the cursor as it was
-pub step_refuses : (x : Index) (c : Cursor) (e : Refusal) (r : Step) → step_of r ≡ step_rule x c
-    → (r ≡ Step.Refused c e) ↔ ((c.next < c.end) × Given (get_table x c.next) (number_of e))
+-- a step: the refusal leaves the cursor as it was
+pub step_refuses : (x : Index) (c : Cursor) (e : Refusal) (r : Result (Option (ℕ × Cursor)) Refusal) → step_of c r ≡ step_rule x c
+    → (r ≡ Err e) ↔ ((c.next < c.end) × Given (get_table x c.next) (number_of e))
 step_refuses x c e r promise = (
-  λ h. ((step_decided x c).refuses (number_of e)).0 (sym promise ∙ ap step_of h),
-  λ g. one_stepped (stays (number_of e) c) r (Step.Refused c e) (promise ∙ ((step_decided x c).refuses (number_of e)).1 g) refl,
+  λ h. ((step_decided x c).refuses (number_of e)).0 (sym promise ∙ ap (step_of c) h),
+  λ g. one_stepped c (stays (number_of e) c) r (Err e) (promise ∙ ((step_decided x c).refuses (number_of e)).1 g) refl,
 )

@@ -2,19 +2,18 @@
 #![tactic(auto)]
 
 ghost use Rattle.std.specs.Prelude.{◌≡◌, true, false, ◌≤◌};
-ghost use Rattle.rules.specs.Words.{Facts, when_all};
-ghost use Rattle.rules.specs.Record.{index, data_limit};
+ghost use Rattle.rules.specs.Words.{when_all};
+ghost use Rattle.rules.specs.Record.{room_of};
 ghost use Rattle.rules.specs.Push.{data_room, segment_plan, first_plan, next_plan, plan_of};
-ghost use Rattle.laws.specs.Orders.{count_orders};
+ghost use Rattle.rules.specs.Refusals.{index_of};
 ghost use Rattle.push_plan.specs.Plans.{planned};
 
-use rules::{Refusal, Room, State, Width};
+use rules::{CompactReader, Refusal, Width};
+use tables::Counted;
 
 // What a push is to do.
 #[derive(Clone, Copy)]
 pub enum Plan {
-    // Refuse it.
-    Refuse(Refusal),
     // Start a segment with the value as its base.
     Segment,
     // Store the segment's first delta, and the width that it needs.
@@ -24,115 +23,95 @@ pub enum Plan {
 }
 
 // What a push of `v` is to do.
-pub fn plan_push(
-    s: State,
-    starts: &[u64],
-    bases: &[u64],
-    offsets: &[u64],
-    widths: &[u8],
-    bytes: &[u8],
-    v: u64,
-) -> Plan
-    ensures { planned result ≡ plan_of (index s starts.now bases.now offsets.now widths.now bytes.now) v }
+#[tactic(auto, using(laws::proofs::Answers::width_there, laws::proofs::Answers::width_absent), unfolding(rules::specs::Push::plan_of))]
+pub fn plan_push(x: &CompactReader<'_>, v: u64) -> Result<Plan, Refusal>
+    ensures { planned result ≡ plan_of (index_of x.now) v }
 {
-    if !tables::counts_hold(s, starts, bases, offsets, widths, bytes) {
-        return Plan::Refuse(Refusal::Counts);
+    let c = tables::check_counts(x)?;
+    if x.state.segments == 0 {
+        return plan_segment(c);
     }
-    let room = Room {
-        starts: starts.len() as u64,
-        bases: bases.len() as u64,
-        offsets: offsets.len() as u64,
-        widths: widths.len() as u64,
-        bytes: bytes.len() as u64,
+    let last = x.state.segments - 1;
+    let base = x.bases[last as usize];
+    let Width::Of(width) = tables::width_of(x, last) else {
+        return plan_first(c, base, v);
     };
-    let segments = s.segments;
-    if segments == 0 {
-        return plan_segment(s, room);
-    }
-    let last = segments - 1;
-    let base = bases[last as usize];
-    let Width::Of(width) = tables::width_of(s, widths, last) else {
-        return plan_first(s, room, base, v);
-    };
-    plan_next(s, room, base, width as u64, v)
+    plan_next(c, base, width as u64, v)
 }
 
 // The plan where a new segment is due: start it if it has room.
-fn plan_segment(s: State, room: Room) -> Plan
-    ensures { planned result ≡ segment_plan s room }
+#[tactic(auto, unfolding(rules::specs::Words::when_all, rules::specs::Push::segment_plan))]
+fn plan_segment(x: Counted<'_>) -> Result<Plan, Refusal>
+    ensures { planned result ≡ segment_plan x.entry.index.now.state (room_of (index_of x.entry.index.now)) }
 {
-    let segments = s.segments;
+    let x = x.index;
+    let segments = x.state.segments;
     if rules::SEGMENT_LIMIT <= segments {
-        return Plan::Refuse(Refusal::SegmentRoom);
+        return Err(Refusal::SegmentRoom);
     }
-    if room.starts <= segments {
-        return Plan::Refuse(Refusal::SegmentRoom);
+    if x.starts.len() as u64 <= segments {
+        return Err(Refusal::SegmentRoom);
     }
-    if room.bases <= segments {
-        return Plan::Refuse(Refusal::SegmentRoom);
+    if x.bases.len() as u64 <= segments {
+        return Err(Refusal::SegmentRoom);
     }
-    if room.offsets <= segments {
-        return Plan::Refuse(Refusal::SegmentRoom);
+    if x.offsets.len() as u64 <= segments {
+        return Err(Refusal::SegmentRoom);
     }
-    Plan::Segment
+    Ok(Plan::Segment)
 }
 
 // The plan where the last segment has this base and no width.
-fn plan_first(s: State, room: Room, base: u64, v: u64) -> Plan
-    requires { Facts (count_orders s room) }
-    ensures { planned result ≡ first_plan s room base v }
+#[tactic(auto, unfolding(rules::specs::Words::when_all, rules::specs::Push::first_plan))]
+fn plan_first(x: Counted<'_>, base: u64, v: u64) -> Result<Plan, Refusal>
+    ensures { planned result ≡ first_plan x.entry.index.now.state (room_of (index_of x.entry.index.now)) base v }
 {
     if v < base {
-        return Plan::Refuse(Refusal::Below);
+        return Err(Refusal::Below);
     }
-    if room.widths <= s.widths {
-        return Plan::Refuse(Refusal::WidthRoom);
+    if x.index.widths.len() as u64 <= x.index.state.widths {
+        return Err(Refusal::WidthRoom);
     }
     let delta = v - base;
-    let need = delta::need_of(delta, s.minimum);
-    if data_room(s, room, need) {
-        return Plan::First(delta, need);
+    let need = delta::need_of(delta, x.index.state.minimum);
+    if data_room(x, need) {
+        return Ok(Plan::First(delta, need));
     }
-    Plan::Refuse(Refusal::DataRoom)
+    Err(Refusal::DataRoom)
 }
 
 // The plan where the last segment has this base and this width.
-fn plan_next(s: State, room: Room, base: u64, width: u64, v: u64) -> Plan
-    requires { Facts (count_orders s room) }
-    ensures { planned result ≡ next_plan s room base width v }
+#[tactic(auto, unfolding(rules::specs::Words::when_all, rules::specs::Push::next_plan))]
+fn plan_next(x: Counted<'_>, base: u64, width: u64, v: u64) -> Result<Plan, Refusal>
+    ensures { planned result ≡ next_plan x.entry.index.now.state (room_of (index_of x.entry.index.now)) base width v }
 {
-    let minimum = s.minimum;
+    let minimum = x.index.state.minimum;
     if width < minimum {
-        return Plan::Refuse(Refusal::Damaged);
+        return Err(Refusal::Damaged);
     }
     if 8 < width {
-        return Plan::Refuse(Refusal::Damaged);
+        return Err(Refusal::Damaged);
     }
     if v < base {
-        return Plan::Refuse(Refusal::Below);
+        return Err(Refusal::Below);
     }
     let delta = v - base;
     let need = delta::need_of(delta, minimum);
     if width < need {
-        return plan_segment(s, room);
+        return plan_segment(x);
     }
-    if data_room(s, room, width) {
-        return Plan::More(delta, width);
+    if data_room(x, width) {
+        return Ok(Plan::More(delta, width));
     }
-    Plan::Refuse(Refusal::DataRoom)
+    Err(Refusal::DataRoom)
 }
 
 // Whether `due` data bytes more have room.
-fn data_room(s: State, room: Room, due: u64) -> bool
-    requires { (s.used ≤ data_limit) × (due ≤ 8) }
-    ensures { result ≡ when_all (data_room s room due) true false }
+#[tactic(auto, unfolding(rules::specs::Words::when_all))]
+fn data_room(x: Counted<'_>, due: u64) -> bool
+    requires { due ≤ 8 }
+    ensures { result ≡ when_all (data_room x.entry.index.now.state (room_of (index_of x.entry.index.now)) due) true false }
 {
-    let end = s.used + due;
-    if room.bytes < end {
-        return false;
-    }
-    if rules::DATA_LIMIT < end {
-        return false;
-    }
-    true
+    let end = x.index.state.used + due;
+    end <= x.index.bytes.len() as u64 && end <= rules::DATA_LIMIT
 }

@@ -6,18 +6,20 @@ use mathlib.Core.Path.{◌≡◌, refl, ap, ◌∙◌}
 use native.Mathlib.Omega.{arith}
 use native.Mathlib.Nat.{le_trans}
 use lib.Dec.{ltb, eqb}
-use lib.ListN.{length, get_or}
+use lib.ListN.{length, take, get_or}
 use borrow.Author.Tests.{ltb-true, ltb-false, eqb-true, eqb-false, leb-true, lt-ltb, le-ltb, ne_eqb}
 use Rattle.rules.specs.Words.{Answer, value, refused, Facts}
 use Rattle.rules.specs.Record.{Index, minimum_of, length_of, segments_of, widths_of, used_of, start, base, offset, width}
 use Rattle.rules.specs.Push.{delta_at}
-use Rattle.rules.specs.Reading.{halving, at_most, damaged, delta_read, read_in, starts_up_to, get_rule, before, reads}
+use Rattle.rules.specs.Reading.{Halved, halving, at_most, damaged, delta_read, read_in, starts_up_to, get_rule, before, reads}
 use Rattle.laws.specs.Orders.{orders_of}
 use Rattle.laws.proofs.Tests.{by_test, false_not_true, taken}
 use Rattle.laws.proofs.Counts.{facts_counts}
 use Rattle.laws.proofs.Halving.{halving_edge}
 use Rattle.laws.proofs.Bytes.{delta_at_below, room_fits}
-use Rattle.index_stream.specs.Searches.{Stays}
+use Rattle.laws.proofs.InUse.{halving_in_use}
+use Rattle.index_stream.specs.declared.Found.{Found}
+use Rattle.index_stream.specs.Searches.{Finds}
 use Rattle.range_reads.specs.Values.{is_value, Values, Sure}
 
 -- what makes the reads of segment k sure up to `until`, whatever its deltas are: a width w within m to 8, room for every delta, and
@@ -67,40 +69,46 @@ sure_none x k p until h = record { from = omega arith; to = omega arith; reads =
 pub sure_all : (x : Index) (k p until w : ℕ) → start x k ≤ p → p < until → Frame x k until w → Sure x k p until until
 sure_all x k p until w h l f = record { from = omega arith; to = omega arith; reads = λ q g u. frame_reads x k until w q f (omega arith) u }
 
--- a search that found some: the segment before the number is one of them, and starts at most at the position
-pub found_in : (starts : List ℕ) (n p number : ℕ) → number ≡ (halving (at_most starts p) n).number → (number ≡ 0 → ⊥)
-    → (number - 1 < n) × (get_or starts (number - 1) 0 ≤ p)
-found_in starts n p number e z =
-    let g = halving_edge (at_most starts p) n in
-    let t = g.to in
-    let pos : 0 < number = omega (arith, z) in
-    let l : 0 < (halving (at_most starts p) n).number = omega arith in
-    (omega arith, rw e (leb-true (get_or starts ((halving (at_most starts p) n).number - 1) 0) p (g.last l)))
+-- what a search from p on tells where it found some: segment k is there and begins at most at p, and each get up to `until` reads in it
+pub record Segment (x : Index) (p until k : ℕ) : Type 0 where
+  pub there : k < segments_of x
+  pub begins : start x k ≤ p
+  pub gets : (q : ℕ) → p ≤ q → q < until → get_rule x q ≡ read_in x k q
 
-module _ (x : Index) (number p : ℕ) (ok : Facts (orders_of x)) (l : p < length_of x) (e : number ≡ (halving (at_most x.starts p) (segments_of x)).number) where
-  -- a read whose search found some
-  get_at : (number ≡ 0 → ⊥) → get_rule x p ≡ read_in x (number - 1) p
-  unfolding get_rule starts_up_to
-  get_at z = rw (facts_counts x ok, lt-ltb p (length_of x) l, ← e, ne_eqb number 0 z, get_rule)
+module _ (x : Index) (ok : Facts (orders_of x)) (starts : List ℕ) (used : starts ≡ take (segments_of x) x.starts) where
+  -- a search over the starts in use is the rule's
+  up_to : (p : ℕ) → (halving (at_most starts p) (length starts)).number ≡ starts_up_to x p
+  unfolding starts_up_to
+  up_to p = rw used (ap (λ (h : Halved). h.number) (halving_in_use x.starts (segments_of x) (omega arith) p))
 
-  -- a read whose search found none
-  pub get_none : number ≡ 0 → get_rule x p ≡ damaged
-  unfolding get_rule starts_up_to
-  get_none z = rw (facts_counts x ok, lt-ltb p (length_of x) l, ← e, z, get_rule)
+  module _ (p limit : ℕ) (r : Found) (f : Finds starts (length starts) p limit r) (long : limit ≤ length_of x) where
+    found : (q : ℕ) → p ≤ q → q < r.until → r.number ≡ starts_up_to x q
+    found q l h = f.stays q l h ∙ up_to q
 
--- a search that found the same segment from p up to `until`
-module _ (x : Index) (number p until : ℕ) (ok : Facts (orders_of x)) (long : until ≤ length_of x) (some : number ≡ 0 → ⊥)
-    (stays : Stays x.starts (segments_of x) p number until) where
-  -- each get from there on reads in that segment
-  pub get_here : (q : ℕ) → p ≤ q → q < until → get_rule x q ≡ read_in x (number - 1) q
-  get_here q l u = get_at x number q ok (omega arith) (stays q l u) some
+    -- a search that found none
+    pub none_found : r.number ≡ 0 → get_rule x p ≡ damaged
+    unfolding get_rule
+    none_found z = rw (facts_counts x ok, lt-ltb p (length_of x) (omega (arith, f.after, f.within)), ← found p (omega arith) f.after, z, get_rule)
 
-  -- values up to p, and sure from there to r
-  pub values_on : (a r : ℕ) → Sure x (number - 1) p until r → Values x a p → Values x a r
-  values_on a r sure good q l u =
-      by_test (ltb q p)
-      (λ t. good q l (ltb-true q p t))
-      (λ t. let g = ltb-false q p t in let to = sure.to in ap is_value (get_here q g (omega arith)) ∙ sure.reads q g u)
+    -- a search that found some
+    pub some_found : (r.number ≡ 0 → ⊥) → Segment x p r.until (r.number - 1)
+    unfolding get_rule starts_up_to
+    some_found z =
+        let e = found p (omega arith) f.after in
+        let g = halving_edge (at_most x.starts p) (segments_of x) in
+        let t = g.to in
+        record {
+          there = omega (arith, z);
+          begins = rw e (leb-true (start x (starts_up_to x p - 1)) p (g.last (omega (arith, z))));
+          gets = λ q l h. rw (facts_counts x ok, lt-ltb q (length_of x) (omega (arith, f.within)), ← found q l h, ne_eqb r.number 0 z, get_rule);
+        }
+
+-- values up to p, and sure from there to r in the segment that a search found
+pub values_on : (x : Index) (p until k : ℕ) → Segment x p until k → (a r : ℕ) → Sure x k p until r → Values x a p → Values x a r
+values_on x p until k s a r sure good q l u =
+    by_test (ltb q p)
+    (λ t. good q l (ltb-true q p t))
+    (λ t. let g = ltb-false q p t in let to = sure.to in ap is_value (s.gets q g (omega arith)) ∙ sure.reads q g u)
 
 -- values up to p, and at p
 pub values_more : (x : Index) (a p : ℕ) → Values x a p → is_value (get_rule x p) ≡ true → Values x a (p + 1)

@@ -1,55 +1,41 @@
 // Whether each position of a range gives a value.
 #![tactic(auto)]
 
-ghost use Rattle.std.specs.Prelude.{◌≡◌, true, ◌-◌, ◌≤◌, ◌<◌, get_or};
-ghost use Rattle.rules.specs.Words.{Facts};
-ghost use Rattle.rules.specs.Record.{index};
+ghost use Rattle.std.specs.Prelude.{◌≡◌, ◌-◌, ◌≤◌, ◌<◌, get_or, take};
 ghost use Rattle.rules.specs.Reading.{reads};
-ghost use Rattle.laws.specs.Orders.{orders_of};
-ghost use Rattle.range_find.specs.Starts.{Rises, Known};
+ghost use Rattle.rules.specs.Refusals.{index_of};
 ghost use Rattle.range_reads.specs.Values.{is_value, Sure};
 
-use range_find::Ahead;
-use rules::{Got, State, Width};
+use range_find::Finder;
+use rules::Width;
+use tables::Counted;
 
-// Whether each position of a..b gives a value.
-pub fn range_reads(
-    s: State,
-    starts: &[u64],
-    bases: &[u64],
-    offsets: &[u64],
-    widths: &[u8],
-    bytes: &[u8],
-    rising: bool,
-    known: Ahead,
-    a: u64,
-    b: u64,
-) -> bool
-    requires { Facts (orders_of (index s starts.now bases.now offsets.now widths.now bytes.now)) × (rising ≡ true → Rises starts.now s.segments) × (a ≤ b) × (b ≤ s.length) × Known starts.now s.segments b known }
-    ensures { result ≡ is_value (reads (index s starts.now bases.now offsets.now widths.now bytes.now) a (b - a)) }
+// Whether each position from a up to the finder's limit gives a value.
+pub fn range_reads(x: Counted<'_>, finder: &Finder<'_>, a: u64) -> bool
+    requires in_use { finder.now.starts.now ≡ take x.index.now.state.segments x.index.now.starts.now }
+    requires ordered { a ≤ finder.now.limit }
+    requires within { finder.now.limit ≤ x.index.now.state.length }
+    ensures { result ≡ is_value (reads (index_of x.entry.index.now) a (finder.now.limit - a)) }
 {
-    let segments = s.segments;
     let mut p = a;
     let mut number: u64 = 0;
     'segments: loop {
-        if b <= p {
+        if finder.limit <= p {
             break 'segments true;
         }
-        let found = range_find::find(starts, segments, rising, known, number, p, b);
+        let found = finder.find(number, p);
         number = found.number;
         let until = found.until;
         if number == 0 {
             break 'segments false;
         }
         let k = number - 1;
-        p = sure_until(s, starts, bases, offsets, widths, bytes, k, p, until);
+        p = sure_until(x, k, p, until);
         'deltas: loop {
             if until <= p {
                 break 'deltas;
             }
-            let Got::Value(_) = segment_reader::read_in(
-                s, starts, bases, offsets, widths, bytes, k, p,
-            ) else {
+            let Ok(_) = segment_reader::read_in(x, k, p) else {
                 break 'segments false;
             };
             p += 1;
@@ -58,43 +44,28 @@ pub fn range_reads(
 }
 
 // How far from p on every read in segment k is sure to give a value, whatever its deltas are: to p itself, or to `until`.
-fn sure_until(
-    s: State,
-    starts: &[u64],
-    bases: &[u64],
-    offsets: &[u64],
-    widths: &[u8],
-    bytes: &[u8],
-    k: u64,
-    p: u64,
-    until: u64,
-) -> u64
-    requires { Facts (orders_of (index s starts.now bases.now offsets.now widths.now bytes.now)) × (k < s.segments) × (get_or starts.now k 0 ≤ p) × (p < until) }
-    ensures { Sure (index s starts.now bases.now offsets.now widths.now bytes.now) k p until result }
+fn sure_until(x: Counted<'_>, k: u64, p: u64, until: u64) -> u64
+    requires segment { k < x.index.now.state.segments }
+    requires after { get_or x.index.now.starts.now k 0 ≤ p }
+    requires some { p < until }
+    ensures { Sure (index_of x.entry.index.now) k p until result }
 {
-    let minimum = s.minimum;
-    let used = s.used;
-    let start = starts[k as usize];
-    let base = bases[k as usize];
-    let offset = offsets[k as usize];
-    let Width::Of(w) = tables::width_of(s, widths, k) else {
+    let index = x.index;
+    let used = index.state.used;
+    let start = index.starts[k as usize];
+    let base = index.bases[k as usize];
+    let offset = index.offsets[k as usize];
+    let Width::Of(w) = tables::width_of(index, k) else {
         return p;
     };
     let width = w as u64;
-    if width < minimum {
-        return p;
+    if index.state.minimum <= width
+        && width <= 8
+        && offset <= used
+        && until - start - 1 <= (used - offset) / width
+        && delta::all_fit(base, width)
+    {
+        return until;
     }
-    if 8 < width {
-        return p;
-    }
-    if used < offset {
-        return p;
-    }
-    if (used - offset) / width < until - start - 1 {
-        return p;
-    }
-    if !delta::all_fit(base, width) {
-        return p;
-    }
-    until
+    p
 }

@@ -1,70 +1,69 @@
 // Where a value would be ordered in one segment, over lent tables, which may be damaged.
 #![tactic(auto)]
 
-ghost use Rattle.std.specs.Prelude.{◌≡◌, ◌≤◌, ◌<◌, length};
-ghost use Rattle.rules.specs.Words.{Facts};
-ghost use Rattle.rules.specs.Record.{index};
+ghost use Rattle.std.specs.Prelude.{◌≡◌, ◌<◌};
 ghost use Rattle.rules.specs.Reading.{delta_search, bisect_in};
-ghost use Rattle.rules.specs.Refusals.{answer_of};
-ghost use Rattle.laws.specs.Orders.{orders_of};
+ghost use Rattle.rules.specs.Refusals.{answer_of, index_of};
 
-use rules::{Got, Refusal, State, Width};
+use rules::{Refusal, Width};
+use tables::Counted;
 
 // The first position of segment k whose value is not below v, or the one behind its last, as halving finds it.
-pub fn bisect_in(
-    s: State,
-    starts: &[u64],
-    bases: &[u64],
-    offsets: &[u64],
-    widths: &[u8],
-    bytes: &[u8],
-    k: u64,
-    v: u64,
-) -> Got
-    requires { Facts (orders_of (index s starts.now bases.now offsets.now widths.now bytes.now)) × (k < s.segments) }
-    ensures { answer_of result ≡ bisect_in (index s starts.now bases.now offsets.now widths.now bytes.now) k v }
+#[tactic(auto, unfolding(rules::specs::Reading::bisect_in, rules::specs::Refusals::width_at))]
+pub fn bisect_in(x: Counted<'_>, k: u64, v: u64) -> Result<u64, Refusal>
+    requires { k < x.index.now.state.segments }
+    ensures { answer_of result ≡ bisect_in (index_of x.entry.index.now) k v }
 {
-    let start = starts[k as usize];
-    let base = bases[k as usize];
-    let offset = offsets[k as usize];
-    if s.length <= start {
-        return Got::Refused(Refusal::Damaged);
+    let index = x.index;
+    let start = index.starts[k as usize];
+    let base = index.bases[k as usize];
+    let offset = index.offsets[k as usize];
+    if index.state.length <= start {
+        return Err(Refusal::Damaged);
     }
     if base == v {
-        return Got::Value(start);
+        return Ok(start);
     }
     if v < base {
-        return Got::Refused(Refusal::Damaged);
+        return Err(Refusal::Damaged);
     }
-    let Width::Of(w) = tables::width_of(s, widths, k) else {
-        return Got::Value(start + 1);
+    let Width::Of(w) = tables::width_of(index, k) else {
+        return Ok(start + 1);
     };
-    let end = tables::entry_or(offsets, s.segments, k + 1, s.used);
-    delta_search(s, bytes, start, offset, end, v - base, w)
+    let end = tables::mark(index, k + 1);
+    delta_search(x, start, offset, end, v - base, w as u64)
 }
 
 // The deltas of a segment, from `offset` to `end`, searched for the first not below `gap`.
-fn delta_search(s: State, bytes: &[u8], start: u64, offset: u64, end: u64, gap: u64, w: u8) -> Got
-    requires { (1 ≤ s.minimum) × (s.used ≤ length bytes.now) × (start < s.length) }
-    ensures { answer_of result ≡ delta_search s.minimum s.used s.length bytes.now start offset end gap w }
+#[tactic(auto, using(laws::proofs::Tests::left, laws::proofs::Tests::taken, laws::proofs::Halving::halving_edge), unfolding(rules::specs::Reading::delta_search))]
+fn delta_search(
+    x: Counted<'_>,
+    start: u64,
+    offset: u64,
+    end: u64,
+    gap: u64,
+    width: u64,
+) -> Result<u64, Refusal>
+    requires { start < x.index.now.state.length }
+    ensures { let i = x.entry.index.now in answer_of result ≡ delta_search i.state.minimum i.state.used i.state.length i.bytes.now start offset end gap width }
 {
-    let width = w as u64;
+    let s = x.index.state;
     if width < s.minimum {
-        return Got::Refused(Refusal::Damaged);
+        return Err(Refusal::Damaged);
     }
     if 8 < width {
-        return Got::Refused(Refusal::Damaged);
+        return Err(Refusal::Damaged);
     }
     if end < offset {
-        return Got::Refused(Refusal::Damaged);
+        return Err(Refusal::Damaged);
     }
     if s.used < end {
-        return Got::Refused(Refusal::Damaged);
+        return Err(Refusal::Damaged);
     }
     let n = (end - offset) / width;
     if s.length - start - 1 < n {
-        return Got::Refused(Refusal::Damaged);
+        return Err(Refusal::Damaged);
     }
-    let low = delta::count_below(bytes, offset, width, n, gap);
-    Got::Value(start + 1 + low)
+    let low = delta::count_below(x.index.bytes, offset, width, n, gap);
+    Ok(start + 1 + low)
 }

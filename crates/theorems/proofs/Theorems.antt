@@ -5,20 +5,20 @@ use mathlib.Core.Path.{◌≡◌, refl}
 use mathlib.Core.Logic.{◌↔◌}
 use native.Mathlib.Omega.{arith}
 use lib.ListN.{length, get_or, take, drop}
+use Rattle.std.specs.Prelude.{Err}
+use Rattle.std.specs.declared.result.Result.{Result}
+use Rattle.std.specs.declared.option.Option.{Option}
+use Rattle.std.specs.declared.ops.Range.{Range}
+use Rattle.rules.specs.declared.State.{State}
 use Rattle.rules.specs.declared.Cursor.{Cursor}
 use Rattle.rules.specs.declared.Refusal.{Refusal}
-use Rattle.rules.specs.declared.Opened.{Opened}
-use Rattle.rules.specs.declared.Got.{Got}
-use Rattle.rules.specs.declared.Target.{Target}
-use Rattle.rules.specs.declared.Walk.{Walk}
-use Rattle.rules.specs.declared.Step.{Step}
 use Rattle.rules.specs.Words.{Answer, value, refused}
 use Rattle.rules.specs.Record.{Index, length_of, minimum_of, segments_of, widths_of, used_of, last_of, start, base, width, room_of, open_rule}
 use Rattle.rules.specs.Push.{push_rule, length_rule, size_rule}
 use Rattle.rules.specs.Reading.{starts_up_to, get_rule, reads, ranged, range_rule, cursor, iter_rule, stays, step_rule, run_count_rule, run_value_rule, span, target_rule, bases_up_to, bisect_rule, bisect_range_rule}
 use Rattle.rules.specs.Audit.{well_formed, deltas, audit_rule, A, flaw, verdict_of}
 use Rattle.rules.specs.Run.{fresh, run, accepted, how_many, NeverFalls}
-use Rattle.rules.specs.Refusals.{number_of, opened_of, answer_of, target_of, walk_of, step_of}
+use Rattle.rules.specs.Refusals.{number_of, answer_of, target_of, step_of}
 use Rattle.demands.specs.Terms.{Small, RoomFor, Walks, bytes_of}
 use Rattle.demands.proofs.WellFormed.{audit_well, well_audit}
 use Rattle.demands.proofs.Bounds.{counts_hold_lem, segments_half, last_above, segments_spread}
@@ -42,7 +42,7 @@ use Rattle.promises.proofs.Steps.{step_decided}
 use Rattle.promises.proofs.Audited.{audit_decided, audit_counts}
 use Rattle.promises.specs.Outcomes.{One, PushLeft, push_says, push_unchanged, RangeLeft, range_says, range_unchanged}
 use Rattle.promises.specs.Kept.{Appended, Does, Filled}
-use Rattle.promises.proofs.One.{one_opened, one_pushed, one_got, one_ranged, one_targeted, one_walk, one_stepped, one_judged}
+use Rattle.promises.proofs.One.{one_answer, one_pushed, one_ranged, one_targeted, one_stepped, one_judged}
 use Rattle.promises.proofs.Stays as stays-laws
 use Rattle.promises.proofs.Answers as code
 
@@ -272,16 +272,16 @@ audit_a_exactly x k = audit_counts x k
 -- THE CODE REFUSES JUST THEN: whatever meets a promise is the refusal e if and only if the table gives e's number
 module _ (e : Refusal) where
   -- opening
-  pub open_refuses : (m : ℕ) (c : Opened) → opened_of c ≡ open_rule m → (c ≡ Opened.Refused e) ↔ Given (open_table m) (number_of e)
-  open_refuses m = code.opened_refuses e (open_exactly m)
+  pub open_refuses : (m : ℕ) (c : Result State Refusal) → answer_of c ≡ open_rule m → (c ≡ Err e) ↔ Given (open_table m) (number_of e)
+  open_refuses m = code.answer_refuses e (open_exactly m)
 
   -- a push, with the state and every entry of the five tables as they were
   pub push_refuses : (x : Index) (v : ℕ) (c : PushLeft) → push_says c ≡ push_rule x v → (c ≡ push_unchanged x e) ↔ Given (push_table x v) (number_of e)
   push_refuses x v = code.push_refuses x v e
 
   -- a call for one number: length, size, get, a bisect, a delta run, each by its theorem above
-  pub number_refuses : {t : List Sentence} {rule : Answer ℕ} → Exactly t rule → (c : Got) → answer_of c ≡ rule → (c ≡ Got.Refused e) ↔ Given t (number_of e)
-  number_refuses = code.got_refuses e
+  pub number_refuses : {t : List Sentence} {rule : Answer ℕ} → Exactly t rule → (c : Result ℕ Refusal) → answer_of c ≡ rule → (c ≡ Err e) ↔ Given t (number_of e)
+  number_refuses = code.answer_refuses e
 
   -- get_range, with every entry of the output as it was
   pub range_refuses : (x : Index) (a b : ℕ) (out : List ℕ) (c : RangeLeft) → range_says c ≡ range_rule x a b out
@@ -289,21 +289,21 @@ module _ (e : Refusal) where
   range_refuses x a b out = code.range_refuses x a b out e
 
   -- opening a cursor
-  pub iter_refuses : (x : Index) (a b : ℕ) (c : Walk) → walk_of c ≡ iter_rule x a b → (c ≡ Walk.Refused e) ↔ Given (iter_table x a b) (number_of e)
-  iter_refuses x a b = code.walk_refuses e (iter_exactly x a b)
+  pub iter_refuses : (x : Index) (a b : ℕ) (c : Result Cursor Refusal) → answer_of c ≡ iter_rule x a b → (c ≡ Err e) ↔ Given (iter_table x a b) (number_of e)
+  iter_refuses x a b = code.answer_refuses e (iter_exactly x a b)
 
   -- a step, with the cursor as it was
-  pub step_refuses : (x : Index) (c : Cursor) (r : Step) → step_of r ≡ step_rule x c
-      → (r ≡ Step.Refused c e) ↔ ((c.next < c.end) × Given (get_table x c.next) (number_of e))
+  pub step_refuses : (x : Index) (c : Cursor) (r : Result (Option (ℕ × Cursor)) Refusal) → step_of c r ≡ step_rule x c
+      → (r ≡ Err e) ↔ ((c.next < c.end) × Given (get_table x c.next) (number_of e))
   step_refuses x c = code.step_refuses x c e
 
   -- target_range
-  pub target_refuses : (x : Index) (p t : ℕ) (c : Target) → target_of c ≡ target_rule x p t → (c ≡ Target.Refused e) ↔ Given (target_table x p) (number_of e)
+  pub target_refuses : (x : Index) (p t : ℕ) (c : Result (Range ℕ) Refusal) → target_of c ≡ target_rule x p t → (c ≡ Err e) ↔ Given (target_table x p) (number_of e)
   target_refuses x p t = code.target_refuses e (target_exactly x p t)
 
 -- NO SECOND ANSWER: two outcomes of the code that both meet a promise are equal, at any input. Opening
-pub one_open : (m : ℕ) → One opened_of (open_rule m)
-one_open m = one_opened (open_rule m)
+pub one_open : (m : ℕ) → One answer_of (open_rule m)
+one_open m = one_answer (open_rule m)
 
 -- a push: the answer with its state, and every entry of the five tables
 pub one_push : (x : Index) (v : ℕ) → One push_says (push_rule x v)
@@ -311,35 +311,35 @@ one_push x v = one_pushed (push_rule x v)
 
 -- length
 pub one_length : (x : Index) → One answer_of (length_rule x)
-one_length x = one_got (length_rule x)
+one_length x = one_answer (length_rule x)
 
 -- size
 pub one_size : (x : Index) → One answer_of (size_rule x)
-one_size x = one_got (size_rule x)
+one_size x = one_answer (size_rule x)
 
 -- get
 pub one_get : (x : Index) (p : ℕ) → One answer_of (get_rule x p)
-one_get x p = one_got (get_rule x p)
+one_get x p = one_answer (get_rule x p)
 
 -- get_range: the answer and every entry of the output
 pub one_range : (x : Index) (a b : ℕ) (out : List ℕ) → One range_says (range_rule x a b out)
 one_range x a b out = one_ranged (range_rule x a b out)
 
 -- opening a cursor
-pub one_iter : (x : Index) (a b : ℕ) → One walk_of (iter_rule x a b)
-one_iter x a b = one_walk (iter_rule x a b)
+pub one_iter : (x : Index) (a b : ℕ) → One answer_of (iter_rule x a b)
+one_iter x a b = one_answer (iter_rule x a b)
 
 -- a step: the answer with its cursor
-pub one_step : (x : Index) (c : Cursor) → One step_of (step_rule x c)
-one_step x c = one_stepped (step_rule x c)
+pub one_step : (x : Index) (c : Cursor) → One (step_of c) (step_rule x c)
+one_step x c = one_stepped c (step_rule x c)
 
 -- a delta run's count
 pub one_run_count : (bytes : List ℕ) (w : ℕ) → One answer_of (run_count_rule bytes w)
-one_run_count bytes w = one_got (run_count_rule bytes w)
+one_run_count bytes w = one_answer (run_count_rule bytes w)
 
 -- a delta run's i-th value
 pub one_run_value : (bytes : List ℕ) (base w i : ℕ) → One answer_of (run_value_rule bytes base w i)
-one_run_value bytes base w i = one_got (run_value_rule bytes base w i)
+one_run_value bytes base w i = one_answer (run_value_rule bytes base w i)
 
 -- target_range
 pub one_target : (x : Index) (p t : ℕ) → One target_of (target_rule x p t)
@@ -347,11 +347,11 @@ one_target x p t = one_targeted (target_rule x p t)
 
 -- bisect_left
 pub one_bisect : (x : Index) (v : ℕ) → One answer_of (bisect_rule x v)
-one_bisect x v = one_got (bisect_rule x v)
+one_bisect x v = one_answer (bisect_rule x v)
 
 -- bisect_range_left
 pub one_bisect_range : (x : Index) (a b v : ℕ) → One answer_of (bisect_range_rule x a b v)
-one_bisect_range x a b v = one_got (bisect_range_rule x a b v)
+one_bisect_range x a b v = one_answer (bisect_range_rule x a b v)
 
 -- the audit
 pub one_audit : (x : Index) → One verdict_of (audit_rule x)
