@@ -2,9 +2,11 @@
 #![tactic(auto)]
 
 ghost use Rattle.std.specs.Prelude.{◌≡◌};
-ghost use Rattle.rules.specs.Record.{index};
+ghost use Rattle.rules.specs.Record.{index, state_at};
 ghost use Rattle.rules.specs.Reading.{span, target_rule, bisect_range_rule};
-ghost use Rattle.crossing.specs.Told.{state_at, told, telling};
+ghost use Rattle.crossing.specs.Told.{told, telling};
+
+use crossing::reader;
 
 // The range of values between position p and the next, for data of length t.
 #[unsafe(no_mangle)]
@@ -22,9 +24,8 @@ pub extern "C" fn rotlantern_target_range(
 ) -> u64
     ensures { told result (span start.new end.new) ≡ telling (target_rule (index (state_at state.now) starts.now bases.now offsets.now widths.now bytes.now) p t) (span start.old end.old) }
 {
-    let s = crossing::state_at(state);
     crossing::tell_target(
-        compact_reader::target_range(s, starts, bases, offsets, widths, bytes, p, t),
+        compact_reader::target_range(&reader(state, starts, bases, offsets, widths, bytes), p, t),
         start,
         end,
     )
@@ -46,9 +47,6 @@ pub extern "C" fn rotlantern_bisect_range_left(
 ) -> u64
     ensures { told result position.new ≡ telling (bisect_range_rule (index (state_at state.now) starts.now bases.now offsets.now widths.now bytes.now) a b v) position.old }
 {
-    let s = crossing::state_at(state);
-    crossing::tell(
-        compact_bisect::bisect_range_left(s, starts, bases, offsets, widths, bytes, a, b, v),
-        position,
-    )
+    let x = reader(state, starts, bases, offsets, widths, bytes);
+    crossing::tell(compact_bisect::bisect_range_left(&x, &(a..b), v), position)
 }

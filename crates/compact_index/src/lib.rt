@@ -3,21 +3,22 @@
 
 ghost use Rattle.std.specs.Prelude.{◌≡◌};
 ghost use Rattle.rules.specs.Record.{default_minimum, fresh_state, open_rule};
-ghost use Rattle.rules.specs.Refusals.{opened_of};
+ghost use Rattle.rules.specs.Refusals.{answer_of};
 
-use rules::{Opened, Refusal, State};
+use rules::{Refusal, State};
 
 // Opens an empty index with this minimum width.
-pub fn compact_index(minimum: u64) -> Opened
-    ensures { opened_of result ≡ open_rule minimum }
+#[tactic(auto, unfolding(rules::specs::Record::open_rule, rules::specs::Words::when_all))]
+pub fn compact_index(minimum: u64) -> Result<State, Refusal>
+    ensures { answer_of result ≡ open_rule minimum }
 {
     if minimum < 1 {
-        return Opened::Refused(Refusal::Minimum);
+        return Err(Refusal::Minimum);
     }
     if 8 < minimum {
-        return Opened::Refused(Refusal::Minimum);
+        return Err(Refusal::Minimum);
     }
-    Opened::Fresh(fresh(minimum))
+    Ok(fresh(minimum))
 }
 
 // Opens an empty index with no minimum width given.

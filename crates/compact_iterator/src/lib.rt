@@ -2,70 +2,36 @@
 #![tactic(auto)]
 
 ghost use Rattle.std.specs.Prelude.{◌≡◌};
-ghost use Rattle.rules.specs.Record.{index};
 ghost use Rattle.rules.specs.Reading.{iter_rule, step_rule};
-ghost use Rattle.rules.specs.Refusals.{walk_of, step_of};
-ghost use Rattle.compact_iterator.specs.Moves.{left_by};
+ghost use Rattle.rules.specs.Refusals.{index_of, answer_of, step_of};
 
-use rules::{Cursor, Got, State, Step, Walk};
-use tables::Checked;
+use rules::{CompactReader, Cursor, Refusal};
+use std::ops::Range;
 
-// Opens a walk over the positions a..b: answers its cursor, and reads no entry.
-pub fn iter(
-    s: State,
-    starts: &[u64],
-    bases: &[u64],
-    offsets: &[u64],
-    widths: &[u8],
-    bytes: &[u8],
-    a: u64,
-    b: u64,
-) -> Walk
-    ensures { walk_of result ≡ iter_rule (index s starts.now bases.now offsets.now widths.now bytes.now) a b }
+// Opens a walk over a range of positions: answers its cursor, and reads no entry.
+#[tactic(auto, unfolding(rules::specs::Reading::iter_rule))]
+pub fn iter(x: &CompactReader<'_>, range: &Range<u64>) -> Result<Cursor, Refusal>
+    ensures { answer_of result ≡ iter_rule (index_of x.now) range.now.start range.now.end }
 {
-    let checked = tables::check_range(s, starts, bases, offsets, widths, bytes, a, b);
-    if let Checked::Refused(e) = checked {
-        return Walk::Refused(e);
-    }
-    Walk::From(Cursor { next: a, end: b })
+    tables::check_range(x, range)?;
+    Ok(Cursor {
+        next: range.start,
+        end: range.end,
+    })
 }
 
-// One step: the value at next and the cursor moved by one; or that the walk is done; or a refusal and the cursor as it was.
-pub fn step(
-    c: Cursor,
-    s: State,
-    starts: &[u64],
-    bases: &[u64],
-    offsets: &[u64],
-    widths: &[u8],
-    bytes: &[u8],
-) -> Step
-    ensures { step_of result ≡ step_rule (index s starts.now bases.now offsets.now widths.now bytes.now) c }
+// One step: the value at next and the cursor moved by one; or that the walk is done; or a refusal, and the cursor is as it was.
+#[tactic(auto, unfolding(rules::specs::Reading::step_rule))]
+pub fn step(c: Cursor, x: &CompactReader<'_>) -> Result<Option<(u64, Cursor)>, Refusal>
+    ensures { step_of c result ≡ step_rule (index_of x.now) c }
 {
-    let next = c.next;
-    let end = c.end;
-    if end <= next {
-        return Step::Done;
+    if c.end <= c.next {
+        return Ok(None);
     }
-    match compact_reader::get(s, starts, bases, offsets, widths, bytes, next) {
-        Got::Value(v) => Step::Gave(
-            v,
-            Cursor {
-                next: next + 1,
-                end,
-            },
-        ),
-        Got::Refused(e) => Step::Refused(c, e),
-    }
-}
-
-// The next position of a cursor after a step of it.
-pub fn next_of(c: Cursor, stepped: Step) -> u64
-    ensures { result ≡ (left_by c (step_of stepped)).next }
-{
-    match stepped {
-        Step::Done => c.next,
-        Step::Gave(_, d) => d.next,
-        Step::Refused(d, _) => d.next,
-    }
+    let value = compact_reader::get(x, c.next)?;
+    let moved = Cursor {
+        next: c.next + 1,
+        end: c.end,
+    };
+    Ok(Some((value, moved)))
 }

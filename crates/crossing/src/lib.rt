@@ -1,14 +1,36 @@
-// What crosses the border to C and Rust: an answer as a number and what its pointers say.
+// What crosses the border to C and Rust: an index in its parts, and an answer as a number and what its pointers say.
 #![tactic(auto)]
 
 ghost use Rattle.std.specs.Prelude.{◌≡◌};
 ghost use Rattle.rules.specs.Audit.{verdict_of};
 ghost use Rattle.rules.specs.Reading.{cursor_at, span};
-ghost use Rattle.rules.specs.Refusals.{answer_of, target_of, step_of};
+ghost use Rattle.rules.specs.Record.{index, state_at};
+ghost use Rattle.rules.specs.Refusals.{index_of, answer_of, target_of, step_of};
 ghost use Rattle.crossing.specs.Told.{told, telling, walked, step_telling, found, verdict_telling};
 
-use rules::{Cursor, Flaw, Refusal};
+use rules::{CompactReader, Cursor, Flaw, Refusal, State};
 use std::ops::Range;
+
+// The index of a state's five numbers and the five lent tables, to read.
+pub fn reader<'a>(
+    state: &[u64; 5],
+    starts: &'a [u64],
+    bases: &'a [u64],
+    offsets: &'a [u64],
+    widths: &'a [u8],
+    bytes: &'a [u8],
+) -> CompactReader<'a>
+    ensures { index_of result ≡ index (state_at state.now) starts.now bases.now offsets.now widths.now bytes.now }
+{
+    CompactReader {
+        state: State::from(*state),
+        starts,
+        bases,
+        offsets,
+        widths,
+        bytes,
+    }
+}
 
 // Tells an answer: 0 and the value, or the refusal's number alone.
 pub fn tell<T: Copy>(answer: Result<T, Refusal>, behind: &mut T) -> u64

@@ -4,21 +4,20 @@ use mathlib.Core.List.{List, [], ◌∷◌, reverse}
 use mathlib.Core.Path.{◌≡◌, refl, sym, ap, ◌∙◌}
 use native.Mathlib.Numerals.{add-one}
 use native.Mathlib.Omega.{arith}
-use native.Mathlib.Nat.{add-suc, pow-suc, pow-le-pow_right, one-le-pow, mod-lt, mod-one, mod-eq_of_lt, mod-add-div, add-mul-mod_self_left, add-mul, mul_assoc, mul_comm, mul-div_cancel, le-div_iff_mul-le, div-lt_iff_lt-mul}
+use native.Mathlib.Nat.{add-suc, add-zero, pow-suc, pow-le-pow_right, one-le-pow, mod-lt, mod-one, mod-eq_of_lt, mod-add-div, add-mul-mod_self_left, add-mul, mul_assoc, mul_comm, mul-div_cancel, le-div_iff_mul-le, div-lt_iff_lt-mul}
 use lib.Dec.{lit<, leb}
 use lib.Bits.{bit_or}
 use lib.ListN.{length, get_or, take, drop}
 use lib.Pow.{pow-add}
 use borrow.Author.Tests.{leb-true, leb-false, le-leb, lt-leb}
 use Rattle.std.specs.List.{fold}
-use Rattle.std.specs.Int.{w64, from_le_bytes}
-use Rattle.std.proofs.lemmas.List.{get_or-drop, get_or-take, reverse-append}
+use Rattle.std.proofs.lemmas.List.{get_or-drop, get_or-take, length-drop, length-take-le, reverse-append}
 use Rattle.std.proofs.lemmas.List.Sums.{fold_push}
 use Rattle.std.proofs.lemmas.Nat.{or_shifted}
 use Rattle.rules.specs.Push.{delta_at}
 use Rattle.laws.proofs.Tests.{by_test}
 use Rattle.laws.proofs.Widths.{bytes_pow}
-use Rattle.laws.proofs.Bytes.{delta_room, delta_at_below}
+use Rattle.laws.proofs.Bytes.{delta_room, delta_at_below, delta_same}
 
 -- one byte more, in front
 delta_grow : (s : List ℕ) (at k : ℕ) → delta_at s at (k + 1) ≡ delta_at s (at + 1) k * 256 + get_or s at 0
@@ -30,6 +29,16 @@ pub delta_drop : (s : List ℕ) (from at k : ℕ) → delta_at (drop from s) at 
 unfolding delta_at
 delta_drop s from at zero = refl
 delta_drop s from at (suc k) = rw (get_or-drop, delta_drop s from (suc at) k, add-suc) refl
+
+-- so all of a part make the delta that stands there
+pub delta_part : (s : List ℕ) (from n : ℕ) → from + n ≤ length s → delta_at (take n (drop from s)) 0 (length (take n (drop from s))) ≡ delta_at s from n
+delta_part s from n h =
+    let rest = drop from s in
+    let long : n ≤ length rest = omega (arith, length-drop from s) in
+    ap (delta_at (take n rest) 0) (length-take-le n rest long)
+    ∙ delta_same (take n rest) rest n 0 n (λ i l. get_or-take n rest i 0 l) (omega arith)
+    ∙ delta_drop s from 0 n
+    ∙ rw add-zero
 
 -- the number that some bytes make, of those that stand first the rest's, and one byte in front
 number_front : (b : ℕ) (s : List ℕ) → delta_at (b ∷ s) 0 (length (b ∷ s)) ≡ delta_at s 0 (length s) * 256 + b
@@ -55,13 +64,6 @@ shifted_in (x ∷ s) h b =
     let below = delta_at_below s (length s) (length s) 0 (λ i l. b (suc i) (omega arith)) (omega arith) in
     rw (reverse-append (x ∷ []) s, fold_push, shifted_in s (omega arith) (λ i l. b (suc i) (omega arith)), number_front x s)
     (shift_step (length s) (delta_at s 0 (length s)) x (omega arith) below (b 0 (omega arith)))
-
--- eight bytes at once
-pub eight_at_once : (s : List ℕ) → from_le_bytes w64 (take 8 s) ≡ delta_at s 0 8
-unfolding delta_at
-eight_at_once s =
-    let same : (i : ℕ) → i < 8 → get_or (take 8 s) i 0 ≡ get_or s i 0 = λ i h. get_or-take 8 s i 0 h in
-    omega (arith, same)
 
 -- a remainder by a multiple of k keeps what is below k
 mod_scale : (q b M k : ℕ) → 0 < M → b < k → (q * k + b) % (M * k) ≡ q % M * k + b
@@ -106,10 +108,16 @@ module _ (w : ℕ) (least : 1 ≤ w) (most : w ≤ 8) where
       ap (λ z. z / above) e1 ∙ mul-div_cancel (x % 256 ^ w) some
 
   -- so w bytes or more, shifted up and down again, are the delta of w bytes
-  pub word_cut : (s : List ℕ) (at n : ℕ) → w ≤ n → at + n ≤ length s → ((i : ℕ) → i < length s → get_or s i 0 < 256) → delta_at s at n * 2 ^ (64 - 8 * w) % 2 ^ 64 / 2 ^ (64 - 8 * w) ≡ delta_at s at w
+  word_cut : (s : List ℕ) (at n : ℕ) → w ≤ n → at + n ≤ length s → ((i : ℕ) → i < length s → get_or s i 0 < 256) → delta_at s at n * 2 ^ (64 - 8 * w) % 2 ^ 64 / 2 ^ (64 - 8 * w) ≡ delta_at s at w
   word_cut s at n more h b =
       let e : n ≡ w + (n - w) = omega arith in
       shift_cut (delta_at s at n) ∙ ap (λ x. delta_at s at x % 256 ^ w) e ∙ delta_mod w (n - w) s at (omega arith) b
+
+  -- the same of a part's number, as a load gives it
+  pub cut_part : (s : List ℕ) (at n : ℕ) → w ≤ n → at + n ≤ length s → ((i : ℕ) → i < length s → get_or s i 0 < 256)
+      → (word : ℕ) → word ≡ delta_at (take n (drop at s)) 0 (length (take n (drop at s))) → word * 2 ^ (64 - 8 * w) % 2 ^ 64 / 2 ^ (64 - 8 * w) ≡ delta_at s at w
+  cut_part s at n more h b word e =
+      ap (λ z. z * 2 ^ (64 - 8 * w) % 2 ^ 64 / 2 ^ (64 - 8 * w)) (e ∙ delta_part s at n h) ∙ word_cut s at n more h b
 
   -- the largest 64-bit number shifted down is the largest of w bytes
   shift_most : 18446744073709551615 / above + 1 ≡ 256 ^ w

@@ -1,7 +1,7 @@
 // Deltas: the width that one needs, and storing, loading and searching deltas of one to eight bytes, least significant byte first.
 #![tactic(auto)]
 
-ghost use Rattle.std.specs.Prelude.{◌≡◌, ◌+◌, ◌*◌, ◌^◌, ◌≤◌, min, leb, length};
+ghost use Rattle.std.specs.Prelude.{◌≡◌, ◌+◌, ◌*◌, ◌^◌, ◌≤◌, leb, length};
 ghost use Rattle.std.proofs.lemmas.List.Edits.{sets};
 ghost use Rattle.rules.specs.Push.{byte_width, need_of, delta_bytes, delta_at};
 ghost use Rattle.rules.specs.Reading.{delta_below, halving};
@@ -41,20 +41,22 @@ pub fn delta_at(bytes: &[u8], at: u64, width: u64) -> u64
     ensures { result ≡ delta_at bytes.now at width }
 {
     let cut = 64 - 8 * width;
-    load(&bytes[at as usize..]) << cut >> cut
+    let from = at as usize;
+    if from + 8 <= bytes.len() {
+        return load(&bytes[from..from + 8]) << cut >> cut;
+    }
+    load(&bytes[from..]) << cut >> cut
 }
 
-// The number that the first eight bytes make, or all if there are fewer, least significant first.
+// The number that at most eight bytes make, least significant first.
 fn load(bytes: &[u8]) -> u64
-    ensures { result ≡ delta_at bytes.now 0 (min 8 (length bytes.now)) }
+    requires { length bytes.now ≤ 8 }
+    ensures { result ≡ delta_at bytes.now 0 (length bytes.now) }
 {
-    match bytes.first_chunk() {
-        Some(eight) => u64::from_le_bytes(*eight),
-        None => bytes
-            .iter()
-            .rev()
-            .fold(0, |value, byte| value << 8 | *byte as u64),
-    }
+    bytes
+        .iter()
+        .rev()
+        .fold(0, |value, byte| value << 8 | *byte as u64)
 }
 
 // The halving over the n deltas from `from` on, with the test "delta below gap".

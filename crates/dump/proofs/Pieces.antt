@@ -5,11 +5,17 @@ use mathlib.Core.Path.{◌≡◌, refl, ap}
 use native.Mathlib.Omega.{arith}
 use lib.ListN.{length, get_or, drop, drop_of_length-le}
 use lib.Seq.{drop-cons}
-use Rattle.rules.specs.declared.Pushed.{Pushed}
+use Rattle.std.specs.declared.result.Result.{Result}
+use Rattle.std.specs.declared.option.Option.{Option}
+use Rattle.std.specs.Prelude.{Ok, Err, Some, None, false, not, eqb}
+use Rattle.std.specs.Option.{is_some}
+use Rattle.std.specs.Result.{result_err}
+use Rattle.rules.specs.declared.Refusal.{Refusal}
+use Rattle.rules.specs.declared.Refusal.TheVariants.{Below, SegmentRoom, WidthRoom, DataRoom, Position, RangeEnd, Reversed, OutputRoom, Counts, Damaged, Minimum}
 use Rattle.rules.specs.Record.{Index}
-use Rattle.rules.specs.Push.{Outcome, delta_at}
-use Rattle.rules.specs.Refusals.{outcome_of}
-use Rattle.dump.specs.Feeding.{Fed, fed, fed_of, with_byte, carried_after, refusal_of, value_rule, byte_rule, feed_rule}
+use Rattle.rules.specs.Push.{Outcome, outcome, delta_at}
+use Rattle.rules.specs.Refusals.{number_of, answer_of}
+use Rattle.dump.specs.Feeding.{Fed, fed, number_in, with_byte, refusal_of, value_rule, byte_rule, feed_rule}
 
 -- feeding two pieces is feeding them as one
 pub pieces : (a b : List ℕ) (f : Fed) → feed_rule f (a ++ b) ≡ feed_rule (feed_rule f a) b
@@ -30,18 +36,36 @@ pub value_fed : (x : Index) (a b c d e f g h : ℕ) (rest : List ℕ)
 unfolding feed_rule byte_rule delta_at
 value_fed x a b c d e f g h rest = ap (λ v. feed_rule (value_rule x v) rest) (eight_bytes a b c d e f g h)
 
--- one byte of a piece fed, and then the rest of it
-pub feed_step : (f g : Fed) (piece : List ℕ) (i : ℕ) → i < length piece → g ≡ byte_rule f (get_or piece i 0) → feed_rule g (drop (suc i) piece) ≡ feed_rule f (drop i piece)
-unfolding feed_rule
-feed_step f g piece i h e = rw (e, drop-cons piece i 0 h, feed_rule)
+-- a refusal's number is above 0
+above_zero : (e : Refusal) → eqb (number_of e) 0 ≡ false
+above_zero Below = refl
+above_zero SegmentRoom = refl
+above_zero WidthRoom = refl
+above_zero DataRoom = refl
+above_zero Position = refl
+above_zero RangeEnd = refl
+above_zero Reversed = refl
+above_zero OutputRoom = refl
+above_zero Counts = refl
+above_zero Damaged = refl
+above_zero Minimum = refl
 
--- nothing is left of the piece
-pub feed_done : (f : Fed) (piece : List ℕ) (i : ℕ) → length piece ≤ i → f ≡ feed_rule f (drop i piece)
-unfolding feed_rule
-feed_done f piece i h = rw (drop_of_length-le piece h, feed_rule)
+-- the number is 0 where no refusal is kept
+pub kept : (o : Option Refusal) → eqb (number_in o) 0 ≡ not (is_some o)
+kept None = refl
+kept (Some e) = above_zero e
 
 -- what the code carries after a push is what the rule carries
-pub pushed_at : (p : Pushed) (starts bases offsets widths bytes : List ℕ) (o : Outcome) → outcome_of p starts bases offsets widths bytes ≡ o
-    → fed_of (carried_after p) starts bases offsets widths bytes ≡ fed o.left 0 0 (refusal_of o.answer)
-pushed_at (Pushed.At s q) starts bases offsets widths bytes o e = rw (← e)
-pushed_at (Pushed.Refused s n) starts bases offsets widths bytes o e = rw (← e)
+pub pushed : (r : Result ℕ Refusal) (x : Index) (o : Outcome) → outcome (answer_of r) x ≡ o → fed x 0 0 (number_in (result_err r)) ≡ fed o.left 0 0 (refusal_of o.answer)
+pushed (Ok p) x o e = rw (← e)
+pushed (Err n) x o e = rw (← e)
+
+-- one byte of a piece fed, and then the rest of it
+pub feed_step : (f : Fed) (piece : List ℕ) (i : ℕ) → i < length piece → feed_rule (byte_rule f (get_or piece i 0)) (drop (suc i) piece) ≡ feed_rule f (drop i piece)
+unfolding feed_rule
+feed_step f piece i h = rw (drop-cons piece i 0 h, feed_rule)
+
+-- nothing is left of the piece
+pub feed_done : (f : Fed) (piece : List ℕ) (i : ℕ) → length piece ≤ i → feed_rule f (drop i piece) ≡ f
+unfolding feed_rule
+feed_done f piece i h = rw (drop_of_length-le piece h, feed_rule)

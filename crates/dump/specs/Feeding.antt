@@ -1,12 +1,12 @@
 -- Document 01, "The dump program": 8-byte little-endian values from an input that comes in pieces, pushed up to the first refusal.
-use Rattle.std.specs.Prelude.{ℕ, ◌+◌, ◌*◌, ◌/◌, ◌^◌, List, [], ◌∷◌, ◌++◌, ltb, eqb}
-use Rattle.rules.specs.declared.State.{State}
-use Rattle.rules.specs.declared.Pushed.{Pushed}
+use Rattle.std.specs.Prelude.{ℕ, ◌+◌, ◌*◌, ◌/◌, ◌^◌, List, [], ◌∷◌, ◌++◌, ltb, eqb, Some, None}
+use Rattle.std.specs.declared.option.Option.{Option}
+use Rattle.rules.specs.declared.Refusal.{Refusal}
 use Rattle.rules.specs.Words.{when, unless, Answer, value, refused}
 use Rattle.rules.specs.Record.{Index, index, default_minimum, fresh_state}
 use Rattle.rules.specs.Push.{delta_bytes, push_rule}
-use Rattle.rules.specs.Refusals.{number_of}
-use Rattle.dump.specs.declared.Carried.{Carried}
+use Rattle.rules.specs.Refusals.{number_of, index_in}
+use Rattle.dump.specs.declared.Feed.{Feed}
 
 -- the index so far; how many bytes of the next value have come, and what they make; the number of the refusal, 0 for none
 pub record Fed : Type 0 where
@@ -19,26 +19,22 @@ pub record Fed : Type 0 where
 abbrev pub fed : Index → ℕ → ℕ → ℕ → Fed
 fed x count partial refusal = record { index = x; count = count; partial = partial; refusal = refusal }
 
--- what the code carries of them
-abbrev pub carry : State → ℕ → ℕ → ℕ → Carried
-carry s count partial refusal = record { state = s; count = count; partial = partial; refusal = refusal }
+-- the number of the refusal that ended it, 0 for none
+abbrev pub number_in : Option Refusal → ℕ
+number_in None = 0
+number_in (Some e) = number_of e
 
--- what the code carries, with the five tables beside it
-abbrev pub fed_of : Carried → List ℕ → List ℕ → List ℕ → List ℕ → List ℕ → Fed
-fed_of c starts bases offsets widths bytes = fed (index c.state starts bases offsets widths bytes) c.count c.partial c.refusal
+-- what the code carries
+abbrev pub fed_of : Feed → Fed
+fed_of f = fed (index_in f.index) f.count f.partial (number_in f.refusal)
 
--- before the first piece: a fresh state with no m given, and no byte
-abbrev pub nothing : Carried
-nothing = carry (fresh_state default_minimum) 0 0 0
+-- before the first piece: an index over five tables with a fresh state, no m given, and no byte
+abbrev pub nothing : List ℕ → List ℕ → List ℕ → List ℕ → List ℕ → Fed
+nothing starts bases offsets widths bytes = fed (index (fresh_state default_minimum) starts bases offsets widths bytes) 0 0 0
 
 -- a byte more of a value: it goes on top and the ones before it move down, so that the first of eight ends as the least significant
 abbrev pub with_byte : ℕ → ℕ → ℕ
 with_byte partial b = partial / 256 + b * 256 ^ 7
-
--- what is carried after a push: the next value begins, or the refusal is kept
-abbrev pub carried_after : Pushed → Carried
-carried_after (Pushed.At s p) = carry s 0 0 0
-carried_after (Pushed.Refused s e) = carry s 0 0 (number_of e)
 
 -- the number of a refusal, 0 for none
 abbrev pub refusal_of : Answer ℕ → ℕ

@@ -2,94 +2,102 @@
 #![tactic(auto)]
 
 ghost use Rattle.std.specs.Prelude.{◌≡◌};
-ghost use Rattle.dump.specs.Feeding.{fed_of, nothing, with_byte, carried_after, byte_rule, feed_rule};
+ghost use Rattle.rules.specs.Refusals.{SameTables, answer_of, index_in};
+ghost use Rattle.rules.specs.Record.{fresh_state, default_minimum};
+ghost use Rattle.rules.specs.Push.{push_rule, outcome};
+ghost use Rattle.dump.specs.Feeding.{fed_of, nothing, with_byte, byte_rule, feed_rule};
 
-use rules::{Pushed, State};
+use rules::{CompactWriter, Refusal};
 
 // What is carried from one piece of the input to the next.
-#[derive(Clone, Copy)]
-pub struct Carried {
-    // The index that the values went into.
-    pub state: State,
+#[derive(Drop)]
+pub struct Feed<'a> {
+    // The index that the values go into.
+    pub index: CompactWriter<'a>,
     // How many bytes of the next value have come.
     pub count: u64,
     // What those bytes make, the last one on top.
     pub partial: u64,
-    // The number of the refusal that ended it, 0 for none.
-    pub refusal: u64,
+    // The refusal that ended it.
+    pub refusal: Option<Refusal>,
 }
 
-// What is carried before the first piece.
-pub fn start() -> Carried
-    ensures { result ≡ nothing }
-{
-    Carried {
-        state: compact_index::default_index(),
-        count: 0,
-        partial: 0,
-        refusal: 0,
+impl<'a> Feed<'a> {
+    // What is carried before the first piece, with a fresh index over these tables.
+    pub fn start(
+        starts: &'a mut [u64],
+        bases: &'a mut [u64],
+        offsets: &'a mut [u64],
+        widths: &'a mut [u8],
+        bytes: &'a mut [u8],
+    ) -> Feed<'a>
+        ensures carried { fed_of result ≡ nothing starts.old bases.old offsets.old widths.old bytes.old }
+        ensures lent { (result.index.starts.ghost_name ≡ starts.entry.ghost_name)
+            × (result.index.bases.ghost_name ≡ bases.entry.ghost_name)
+            × (result.index.offsets.ghost_name ≡ offsets.entry.ghost_name)
+            × (result.index.widths.ghost_name ≡ widths.entry.ghost_name)
+            × (result.index.bytes.ghost_name ≡ bytes.entry.ghost_name) }
+    {
+        Feed {
+            index: CompactWriter {
+                state: default_index(),
+                starts,
+                bases,
+                offsets,
+                widths,
+                bytes,
+            },
+            count: 0,
+            partial: 0,
+            refusal: None,
+        }
+    }
+
+    // Takes a piece of the input: pushes each value that it ends, up to the first refusal.
+    #[tactic(auto, using(crate::proofs::Pieces::feed_step, crate::proofs::Pieces::feed_done))]
+    pub fn feed(&mut self, piece: &[u8])
+        ensures carried { fed_of self.new ≡ feed_rule (fed_of self.old) piece.now }
+        ensures lent { SameTables self.new.index self.old.index }
+    {
+        for byte in piece {
+            self.feed_byte(*byte);
+        }
+    }
+
+    // Takes one byte of the input; the eighth of a value ends it, and the value is pushed.
+    #[tactic(auto, using(crate::proofs::Pieces::kept, crate::proofs::Pieces::pushed), unfolding(crate::specs::Feeding::byte_rule))]
+    fn feed_byte(&mut self, byte: u8)
+        ensures carried { fed_of self.new ≡ byte_rule (fed_of self.old) byte }
+        ensures lent { SameTables self.new.index self.old.index }
+    {
+        if self.refusal.is_some() {
+            return;
+        }
+        let value = with_byte(self.partial, byte);
+        if self.count < 7 {
+            self.count += 1;
+            self.partial = value;
+            return;
+        }
+        self.count = 0;
+        self.partial = 0;
+        self.refusal = push(&mut self.index, value).err();
     }
 }
 
-// Takes a piece of the input: pushes each value that it ends, up to the first refusal.
-pub fn feed(
-    carried: Carried,
-    starts: &mut [u64],
-    bases: &mut [u64],
-    offsets: &mut [u64],
-    widths: &mut [u8],
-    bytes: &mut [u8],
-    piece: &[u8],
-) -> Carried
-    ensures { fed_of result starts.new bases.new offsets.new widths.new bytes.new
-        ≡ feed_rule (fed_of carried starts.old bases.old offsets.old widths.old bytes.old) piece.now }
+// STUB
+fn default_index() -> rules::State
+    ensures { result ≡ fresh_state default_minimum }
 {
-    let mut next = carried;
-    let mut i: u64 = 0;
-    while i < piece.len() as u64 {
-        next = feed_byte(
-            next,
-            starts,
-            bases,
-            offsets,
-            widths,
-            bytes,
-            piece[i as usize],
-        );
-        i += 1;
-    }
-    next
+    rules::State { minimum: 1, length: 0, segments: 0, widths: 0, used: 0 }
 }
 
-// Takes one byte of the input; the eighth of a value ends it, and the value is pushed.
-fn feed_byte(
-    carried: Carried,
-    starts: &mut [u64],
-    bases: &mut [u64],
-    offsets: &mut [u64],
-    widths: &mut [u8],
-    bytes: &mut [u8],
-    byte: u8,
-) -> Carried
-    ensures { fed_of result starts.new bases.new offsets.new widths.new bytes.new
-        ≡ byte_rule (fed_of carried starts.old bases.old offsets.old widths.old bytes.old) byte }
+// STUB
+fn push(x: &mut CompactWriter<'_>, v: u64) -> Result<u64, Refusal>
+    ensures answers { outcome (answer_of result) (index_in x.new) ≡ push_rule (index_in x.old) v }
+    ensures lent { SameTables x.new x.old }
 {
-    if carried.refusal != 0 {
-        return carried;
-    }
-    let state = carried.state;
-    let count = carried.count;
-    let value = with_byte(carried.partial, byte);
-    if count < 7 {
-        return Carried {
-            state,
-            count: count + 1,
-            partial: value,
-            refusal: 0,
-        };
-    }
-    let pushed = compact_writer::push(state, starts, bases, offsets, widths, bytes, value);
-    pushed_on(pushed)
+    Ok(v)
 }
 
 // A value's bytes with one more on top: the ones before it move down.
@@ -97,24 +105,4 @@ fn with_byte(partial: u64, byte: u8) -> u64
     ensures { result ≡ with_byte partial byte }
 {
     partial / 256 + byte as u64 * 72057594037927936
-}
-
-// What is carried after a push: the next value begins, or the refusal is kept.
-fn pushed_on(pushed: Pushed) -> Carried
-    ensures { result ≡ carried_after pushed }
-{
-    match pushed {
-        Pushed::At(state, _) => Carried {
-            state,
-            count: 0,
-            partial: 0,
-            refusal: 0,
-        },
-        Pushed::Refused(state, e) => Carried {
-            state,
-            count: 0,
-            partial: 0,
-            refusal: crossing::number_of(e),
-        },
-    }
 }

@@ -1,5 +1,5 @@
 -- Document 01, "The dump program": the lines that it prints, as bytes.
-use Rattle.std.specs.Prelude.{ℕ, zero, suc, ◌+◌, ◌-◌, ◌/◌, ◌≤◌, List, [], ◌++◌, ◌≡◌, ltb, eqb, length, take}
+use Rattle.std.specs.Prelude.{ℕ, zero, suc, ◌+◌, ◌-◌, ◌/◌, List, [], ◌++◌, ltb, eqb, codes}
 use Prim.Native.String.{String}
 use Rattle.io.specs.Digits.{last_digits}
 use Rattle.rules.specs.declared.Width.{Width}
@@ -9,7 +9,6 @@ use Rattle.rules.specs.Record.{Index, length_of, segments_of, start, base, offse
 use Rattle.rules.specs.Push.{length_rule, size_rule}
 use Rattle.rules.specs.Refusals.{width_at}
 use Rattle.dump.specs.Feeding.{Fed}
-use Rattle.dump_put.specs.Text.{text}
 
 -- how many decimal digits n has, if that is at most `most` + 1
 unfoldable pub places : ℕ → ℕ → ℕ
@@ -22,20 +21,16 @@ decimal n = last_digits 10 (places 19 n) n
 
 -- the end of a line
 abbrev pub newline : List ℕ
-newline = text "\n"
+newline = codes "\n"
 
 -- a label and a number
 abbrev pub field : String → ℕ → List ℕ
-field label n = text label ++ decimal n
+field label n = codes label ++ decimal n
 
 -- the line of a call's answer; a refused call has none
 abbrev pub answer_line : String → Answer ℕ → List ℕ
 answer_line label (value n) = field label n ++ newline
 answer_line label (refused e) = []
-
--- r bytes at the start of a buffer are this line
-abbrev pub Begins : ℕ → List ℕ → List ℕ → Type 0
-Begins r out line = (r ≤ length out) × (take r out ≡ line)
 
 -- how the input ended: the refusal, with the number of the value refused (all before it were taken, so that is the length);
 -- otherwise a tail of bytes that make no value; otherwise no line
@@ -47,7 +42,7 @@ end_line length count refusal =
 -- a segment's width, or that it has none
 abbrev pub width_text : Width → List ℕ
 width_text (Of w) = field " width " w
-width_text Absent = text " width none"
+width_text Absent = codes " width none"
 
 -- segment k's line
 unfoldable pub segment_line : Index → ℕ → List ℕ

@@ -1,51 +1,54 @@
-// Labels, numbers and widths as text, put into a lent buffer.
+// Labels, numbers and widths as text, put at the end of a line.
 #![tactic(auto)]
 
-ghost use Rattle.std.specs.Prelude.{◌≡◌, ◌++◌, ◌+◌, ◌≤◌, length, take};
-ghost use Rattle.dump_put.specs.Report.{decimal, newline, width_text, Begins};
+ghost use Rattle.std.specs.Prelude.{◌≡◌, ◌++◌, ◌+◌, ◌≤◌, length};
+ghost use Rattle.arrayvec.specs.ArrayVec.{array_vec_len, Extends};
+ghost use Rattle.dump_put.specs.Report.{decimal, newline, width_text};
 
+use arrayvec::ArrayVec;
 use rules::Width;
 
+// A line of the report: at most 160 bytes.
+pub type Line = ArrayVec<u8, 160>;
+
 // The line of a label and a number.
-pub fn number_line(label: &[u8], n: u64, out: &mut [u8]) -> u64
-    requires { length label.now + 21 ≤ length out.old }
-    ensures { Begins result out.new (label.now ++ decimal n ++ newline) }
+pub fn number_line<const N: usize>(label: &[u8], n: u64) -> ArrayVec<u8, N>
+    requires { length label.now + 21 ≤ N }
+    ensures { result.items ≡ label.now ++ decimal n ++ newline }
 {
-    let end = put_field(out, 0, label, n);
-    put(out, end, b"\n")
+    let mut line = ArrayVec::new();
+    put_field(&mut line, label, n);
+    put(&mut line, b"\n");
+    line
 }
 
-// Puts a segment's width after the first `at` bytes, or that it has none, and answers where it ends.
-pub fn put_width(out: &mut [u8], at: u64, width: Width) -> u64
-    requires { at + 27 ≤ length out.old }
-    ensures { (result ≤ at + 27) × (take result out.new ≡ take at out.old ++ width_text width) }
+// Puts a segment's width at the end, or that it has none.
+pub fn put_width<const N: usize>(line: &mut ArrayVec<u8, N>, width: Width)
+    requires { array_vec_len line.old + 27 ≤ N }
+    ensures put { Extends line.old (width_text width) line.new }
+    ensures short { array_vec_len line.new ≤ array_vec_len line.old + 27 }
 {
     let Width::Of(w) = width else {
-        return put(out, at, b" width none");
+        return put(line, b" width none");
     };
-    put_field(out, at, b" width ", w as u64)
+    put_field(line, b" width ", w as u64)
 }
 
-// Puts a label and a number after the first `at` bytes, and answers where they end.
-pub fn put_field(out: &mut [u8], at: u64, label: &[u8], n: u64) -> u64
-    requires { at + length label.now + 20 ≤ length out.old }
-    ensures { (result ≤ at + length label.now + 20) × (take result out.new ≡ take at out.old ++ (label.now ++ decimal n)) }
+// Puts a label and a number at the end.
+pub fn put_field<const N: usize>(line: &mut ArrayVec<u8, N>, label: &[u8], n: u64)
+    requires { array_vec_len line.old + length label.now + 20 ≤ N }
+    ensures put { Extends line.old (label.now ++ decimal n) line.new }
+    ensures short { array_vec_len line.new ≤ array_vec_len line.old + length label.now + 20 }
 {
-    let from = put(out, at, label);
-    let mut digits = [0u8; 20];
-    let k = io::decimal(n, &mut digits);
-    put(out, from, &digits[..k])
+    put(line, label);
+    put(line, itoa::Buffer::new().format(n).as_bytes())
 }
 
-// Puts some bytes after the first `at`, and answers where they end.
-pub fn put(out: &mut [u8], at: u64, part: &[u8]) -> u64
-    requires { at + length part.now ≤ length out.old }
-    ensures { (result ≡ at + length part.now) × (take result out.new ≡ take at out.old ++ part.now) }
+// Puts some bytes at the end. There is room.
+pub fn put<const N: usize>(line: &mut ArrayVec<u8, N>, part: &[u8])
+    requires { array_vec_len line.old + length part.now ≤ N }
+    ensures put { Extends line.old part.now line.new }
+    ensures long { array_vec_len line.new ≡ array_vec_len line.old + length part.now }
 {
-    let mut i: u64 = 0;
-    while i < part.len() as u64 {
-        out[(at + i) as usize] = part[i as usize];
-        i += 1;
-    }
-    at + i
+    let _fits = line.try_extend_from_slice(part);
 }

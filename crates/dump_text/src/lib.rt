@@ -1,43 +1,29 @@
-// The lines of the dump's report, put into a lent buffer.
+// The lines of the dump's report.
 #![tactic(auto)]
 
+ghost use Rattle.std.specs.Prelude.{◌≡◌};
 ghost use Rattle.dump.specs.Feeding.{fed_of};
-ghost use Rattle.dump_put.specs.Report.{report_line, Begins};
+ghost use Rattle.dump_put.specs.Report.{report_line};
 
-use dump::Carried;
+use dump::Feed;
+use dump_put::Line;
 
-// Puts line number i of the report at the start of `out` and answers how many bytes it has, 0 where there is no such line.
-pub fn line(
-    carried: Carried,
-    starts: &[u64],
-    bases: &[u64],
-    offsets: &[u64],
-    widths: &[u8],
-    bytes: &[u8],
-    i: u64,
-    out: &mut [u8; 160],
-) -> u64
-    ensures { Begins result out.new (report_line (fed_of carried starts.now bases.now offsets.now widths.now bytes.now) i) }
+// Line number i of the report; an empty one where there is no such line.
+#[tactic(auto, using(laws::proofs::Counts::facts_counts), unfolding(rules::specs::Push::length_rule, rules::specs::Push::size_rule, dump_put::specs::Report::report_line))]
+pub fn line(fed: &Feed<'_>, i: u64) -> Line
+    ensures { result.items ≡ report_line (fed_of fed.now) i }
 {
-    let s = carried.state;
-    if !tables::counts_hold(s, starts, bases, offsets, widths, bytes) {
-        return 0;
+    let index = fed.index.reader();
+    let s = index.state;
+    let Ok(counted) = tables::check_counts(&index) else {
+        return Line::new();
+    };
+    match i {
+        0 => dump_lines::end_line(fed),
+        1 => dump_put::number_line(b"length ", s.length),
+        2 => dump_put::number_line(b"segments ", s.segments),
+        3 => dump_put::number_line(b"bytes ", 24 * s.segments + s.widths + s.used),
+        _ if i - 4 < s.segments => dump_lines::segment_line(counted, i - 4),
+        _ => Line::new(),
     }
-    if i == 0 {
-        return dump_lines::end_line(carried, out);
-    }
-    if i == 1 {
-        return dump_put::number_line(b"length ", s.length, out);
-    }
-    if i == 2 {
-        return dump_put::number_line(b"segments ", s.segments, out);
-    }
-    if i == 3 {
-        return dump_put::number_line(b"bytes ", 24 * s.segments + s.widths + s.used, out);
-    }
-    let k = i - 4;
-    if k < s.segments {
-        return dump_lines::segment_line(s, starts, bases, offsets, widths, bytes, k, out);
-    }
-    0
 }

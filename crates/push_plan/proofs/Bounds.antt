@@ -1,15 +1,14 @@
 -- Whatever is planned has room, so doing it stays in bounds.
-use Prim.Native.Nat.{ℕ, ◌+◌, ◌-◌, ◌≤◌, ◌<◌}
+use Prim.Native.Nat.{ℕ, ◌-◌}
 use mathlib.Core.List.{[], ◌∷◌}
-use mathlib.Core.Path.{◌≡◌, sym, ap, ◌∙◌, subst}
+use mathlib.Core.Path.{◌≡◌, sym, subst}
 use native.Mathlib.Omega.{arith}
 use lib.Dec.{ltb, eqb}
-use lib.ListN.{length}
 use Rattle.std.specs.declared.result.Result.{Result}
 use Rattle.rules.specs.declared.Refusal.{Refusal}
 use Rattle.rules.specs.Words.{Facts, ◌≤?◌}
-use Rattle.rules.specs.Record.{Index, segments_of, widths_of, used_of, last_of, room_of, counts_hold}
-use Rattle.rules.specs.Push.{Plan, refuse, segment, first, more, segment_plan, first_plan, next_plan, plan_of}
+use Rattle.rules.specs.Record.{Index, segments_of, widths_of, last_of, room_of, counts_hold}
+use Rattle.rules.specs.Push.{segment_plan, first_plan, next_plan, plan_of}
 use Rattle.laws.specs.Orders.{orders_of}
 use Rattle.laws.proofs.Tests.{when_case, when_all_case}
 use Rattle.laws.proofs.Counts.{counts_facts}
