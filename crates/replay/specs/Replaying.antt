@@ -6,9 +6,11 @@ use Rattle.rules.specs.Words.{when, unless, Answer, value, refused}
 use Rattle.rules.specs.Record.{Index, index, segments_of, widths_of, used_of, open_rule}
 use Rattle.rules.specs.Push.{Outcome, push_rule, length_rule, size_rule}
 use Rattle.rules.specs.Reading.{Ranged, Span, Stepped, done, gave, stays, get_rule, range_rule, iter_rule, step_rule, target_rule, bisect_rule, bisect_range_rule}
+use Rattle.rules.specs.Refusals.{index_in, SameTables}
 use Rattle.replay.specs.declared.Call.{Call}
 use Rattle.replay.specs.declared.replies.Reply.{Reply}
 use Rattle.replay.specs.Replies.{reply, number_reply, span_reply, unknown_reply}
+use Rattle.replay.specs.declared.Player.{Player}
 
 -- a state, a cursor and an answer
 pub record Replayed : Type 0 where
@@ -88,6 +90,14 @@ pub record Played : Type 0 where
 -- these four together
 abbrev pub played : Index → Cursor → List ℕ → Reply → Played
 played x c out y = record { index = x; cursor = c; out = out; reply = y }
+
+-- a player still holds what it was lent
+abbrev pub SameLent : (new old : Player) → Type 0
+SameLent new old = SameTables new.index old.index × (new.out.ghost_name ≡ old.out.ghost_name)
+
+-- what a player holds, and an answer
+abbrev pub played_by : Player → Reply → Played
+played_by p y = played (index_in p.index) p.cursor p.out.now y
 
 -- the state and the cursor as a call left them, over an index whose tables and output stay
 abbrev pub unmoved : Index → List ℕ → Replayed → Played

@@ -1,18 +1,21 @@
 // Replaying recorded calls of an index: each is made by the proved code, and answers in a record's numbers.
 #![tactic(auto)]
 
-ghost use Rattle.std.specs.Prelude.{◌≡◌, None, ltb, slice_get};
+ghost use Rattle.std.specs.Prelude.{◌≡◌, None, ltb, length, slice_get};
 ghost use Rattle.rules.specs.Words.{when};
-ghost use Rattle.rules.specs.Refusals.{index_of};
+ghost use Rattle.rules.specs.Record.{open_rule};
+ghost use Rattle.rules.specs.Reading.{range_rule, iter_rule, step_rule};
+ghost use Rattle.rules.specs.Refusals.{index_of, index_in};
 ghost use Rattle.replay.specs.Kinds.{kind_number};
-ghost use Rattle.replay.specs.Replaying.{table_rule, reply_rule};
+ghost use Rattle.replay.specs.Replaying.{SameLent, played_by, unmoved, range_played, after_open, after_iter, after_step, entry_rule, table_rule, reply_rule, replay_rule};
 
 mod kinds;
 mod replies;
 
 pub use kinds::{Kind, Table, UnknownKind, UnknownTable};
 pub use replies::Reply;
-use rules::CompactReader;
+use rules::{CompactReader, CompactWriter, Cursor};
+use std::ops::Range;
 
 // A recorded call: its kind and its numbers.
 #[derive(Clone, Copy)]
@@ -21,6 +24,100 @@ pub struct Call {
     pub a: u64,
     pub b: u64,
     pub c: u64,
+}
+
+// What calls are made on.
+#[derive(Drop)]
+pub struct Player<'a> {
+    // The index.
+    pub index: CompactWriter<'a>,
+    // The walk that was opened last.
+    pub cursor: Cursor,
+    // The output of get_range.
+    pub out: &'a mut [u64],
+}
+
+impl Player<'_> {
+    // Makes one call on what the calls before it left.
+    #[tactic(auto, unfolding(crate::specs::Replaying::replay_rule, crate::specs::Replaying::read_rule))]
+    pub fn play(&mut self, call: Call) -> Reply
+        ensures left { played_by self.new result ≡ replay_rule (index_in self.old.index) self.old.cursor self.old.out.now call }
+        ensures lent { SameLent self.new self.old }
+    {
+        let Ok(kind) = Kind::try_from(call.kind) else {
+            return Reply::UNKNOWN;
+        };
+        match kind {
+            Kind::Open => self.open(call.a),
+            Kind::Push => Reply::from(compact_writer::push(&mut self.index, call.a)),
+            Kind::GetRange => self.get_range(&(call.a..call.b)),
+            Kind::Output => self.output(call.a),
+            Kind::Iter => self.iter(&(call.a..call.b)),
+            Kind::Step => self.step(),
+            _ => read(&self.index.reader(), kind, call),
+        }
+    }
+
+    // Entry k of the output.
+    #[tactic(auto, unfolding(crate::specs::Replaying::entry_rule))]
+    fn output(&self, k: u64) -> Reply
+        ensures { result ≡ entry_rule self.now.out.now (length self.now.out.now) k }
+    {
+        let out = &*self.out;
+        Reply::from(out.get(k as usize).copied())
+    }
+
+    // Opens an index in place of the one there is.
+    fn open(&mut self, minimum: u64) -> Reply
+        ensures left { played_by self.new result ≡ unmoved (index_in self.old.index) self.old.out.now (after_open self.old.index.state self.old.cursor (open_rule minimum)) }
+        ensures lent { SameLent self.new self.old }
+    {
+        match compact_index::compact_index(minimum) {
+            Ok(fresh) => {
+                self.index.state = fresh;
+                Reply::from(0)
+            }
+            Err(e) => Reply::from(e),
+        }
+    }
+
+    // Puts the values of a range into the output.
+    fn get_range(&mut self, range: &Range<u64>) -> Reply
+        ensures left { played_by self.new result ≡ range_played (index_in self.old.index) self.old.cursor (range_rule (index_in self.old.index) range.now.start range.now.end self.old.out.now) }
+        ensures lent { SameLent self.new self.old }
+    {
+        let x = self.index.reader();
+        Reply::from(compact_range::get_range(&x, range, self.out))
+    }
+
+    // Opens a walk in place of the one there is.
+    fn iter(&mut self, range: &Range<u64>) -> Reply
+        ensures left { played_by self.new result ≡ unmoved (index_in self.old.index) self.old.out.now (after_iter self.old.index.state self.old.cursor (iter_rule (index_in self.old.index) range.now.start range.now.end)) }
+        ensures lent { SameLent self.new self.old }
+    {
+        match compact_iterator::iter(&self.index.reader(), range) {
+            Ok(from) => {
+                self.cursor = from;
+                Reply::from(0)
+            }
+            Err(e) => Reply::from(e),
+        }
+    }
+
+    // Takes a step of the walk; the second number says whether it was done.
+    fn step(&mut self) -> Reply
+        ensures left { played_by self.new result ≡ unmoved (index_in self.old.index) self.old.out.now (after_step self.old.index.state self.old.cursor (step_rule (index_in self.old.index) self.old.cursor)) }
+        ensures lent { SameLent self.new self.old }
+    {
+        match compact_iterator::step(self.cursor, &self.index.reader()) {
+            Ok(Some((v, moved))) => {
+                self.cursor = moved;
+                Reply::from(v)
+            }
+            Ok(None) => Reply::from((0, 1)),
+            Err(e) => Reply::from(e),
+        }
+    }
 }
 
 // What a read of the index alone answers.
@@ -46,7 +143,7 @@ fn read(x: &CompactReader<'_>, kind: Kind, call: Call) -> Reply
 }
 
 // Entry k of table number t.
-#[tactic(auto, using(crate::proofs::Entries::entry_found, crate::proofs::Entries::table_unknown), unfolding(crate::specs::Replaying::table_rule))]
+#[tactic(auto, using(crate::proofs::Entries::entry_found), unfolding(crate::specs::Replaying::table_rule))]
 fn table_entry(x: &CompactReader<'_>, t: u64, k: u64) -> Reply
     ensures { result ≡ table_rule (index_of x.now) t k }
 {
