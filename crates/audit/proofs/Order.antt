@@ -2,19 +2,24 @@
 use Prim.Native.Nat.{ℕ, suc, ◌+◌, ◌-◌, ◌≤◌, ◌<◌}
 use mathlib.Core.Bool.{true, false}
 use mathlib.Core.List.{List, [], ◌∷◌}
-use mathlib.Core.Path.{◌≡◌, refl, sym, ap, ◌∙◌}
+use mathlib.Core.Path.{◌≡◌, refl, sym, ◌∙◌}
 use native.Mathlib.Omega.{arith}
 use native.Mathlib.Numerals.{add-one}
-use Rattle.rules.specs.declared.Letter as code-letter
-use Rattle.rules.specs.declared.Verdict as code-verdict
-use Rattle.rules.specs.Words.{when_all}
+use Rattle.std.specs.Prelude.{Err, ◌⊎◌}
+use Rattle.std.proofs.Common.{inl, inr}
+use Rattle.rules.specs.declared.Flaw.{Flaw}
+use Rattle.rules.specs.Words.{when, Test, Facts, when_all}
 use Rattle.rules.specs.Record.{Index, segments_of, widths_of, width, counts_hold}
-use Rattle.rules.specs.Audit.{A, E, F, well_formed, flaw, deltas, Rule, ◌by◌, rules_of, first_flaw, audit_from, audit_rule, letter_of, verdict_of}
+use Rattle.rules.specs.Audit.{A, E, well_formed, flaw, deltas, Rule, rules_of, first_flaw, audit_from, audit_rule, verdict_of}
 use Rattle.audit_rules.specs.Letters.{rule_b, rule_c, rule_d, rule_e, rule_f, rules_cto_f}
-use Rattle.laws.proofs.Tests.{taken}
+use Rattle.laws.proofs.Tests.{taken, by_test, facts_of}
+
+-- a list of tests fails, or says its facts
+pub tests_tell : (ts : List Test) → (when_all ts true false ≡ false) ⊎ Facts ts
+tests_tell ts = by_test (when_all ts true false) (λ t. inr (facts_of ts t)) (λ t. inl t)
 
 -- no rule is left
-pub flaw_none : (k : ℕ) → first_flaw k [] ≡ well_formed
+flaw_none : (k : ℕ) → first_flaw k [] ≡ well_formed
 unfolding first_flaw
 flaw_none k = refl
 
@@ -28,21 +33,27 @@ pub flaw_here : (k : ℕ) (r : Rule) (rs : List Rule) → when_all r.tests true 
 unfolding first_flaw
 flaw_here k r rs e = rw (e, first_flaw)
 
+-- the last rule decides
+pub flaw_last : (k : ℕ) (r : Rule) → first_flaw k (r ∷ []) ≡ when (when_all r.tests true false) well_formed (flaw r.letter k)
+unfolding first_flaw
+flaw_last k r = by_test (when_all r.tests true false) (λ e. rw (e, first_flaw)) (λ e. rw (e, first_flaw))
+
 -- where B holds, the verdict on C to F, at the segment's own deltas and width, is the segment's
 pub past_b : (x : Index) (k d w : ℕ) → when_all (rule_b x k) true false ≡ true → d ≡ deltas x k → w ≡ width x k
     → first_flaw k (rules_cto_f x k d w) ≡ first_flaw k (rules_of x k)
 past_b x k d w b ed ew = rw (ed, ew) (sym (flaw_next k _ _ b))
 
 -- a last segment without a width has E alone to keep
-module _ (x : Index) (k d w : ℕ) (none : widths_of x ≤ k) (last : segments_of x ≤ k + 1) where
-  e_alone : first_flaw k (rules_cto_f x k d w) ≡ first_flaw k (E by (rule_e x k d w) ∷ F by (rule_f x k d w) ∷ [])
-  e_alone = flaw_next k _ _ (taken (rule_c x k w) true false (omega arith)) ∙ flaw_next k _ _ (taken (rule_d x k w) true false (omega arith))
-
-  pub without_flaw : when_all (rule_e x k d w) true false ≡ false → first_flaw k (rules_cto_f x k d w) ≡ flaw E k
-  without_flaw e = e_alone ∙ flaw_here k _ _ e
-
-  pub without_none : when_all (rule_e x k d w) true false ≡ true → first_flaw k (rules_cto_f x k d w) ≡ well_formed
-  without_none e = e_alone ∙ flaw_next k _ _ e ∙ flaw_next k _ _ (taken (rule_f x k d w) true false ((λ h. absurd (omega arith)), tt)) ∙ flaw_none k
+pub without : (x : Index) (k d w : ℕ) → widths_of x ≤ k → segments_of x ≤ k + 1
+    → first_flaw k (rules_cto_f x k d w) ≡ when (when_all (rule_e x k d w) true false) well_formed (flaw E k)
+without x k d w none last =
+    let c = taken (rule_c x k w) true false (omega arith) in
+    let e = taken (rule_d x k w) true false (omega arith) in
+    let f = taken (rule_f x k d w) true false ((λ h. absurd (omega arith)), tt) in
+    flaw_next k _ _ c ∙ flaw_next k _ _ e
+    ∙ by_test (when_all (rule_e x k d w) true false)
+    (λ t. rw t (flaw_next k _ _ t ∙ flaw_next k _ _ f ∙ flaw_none k))
+    (λ t. rw t (flaw_here k _ _ t))
 
 -- counts come first
 pub audit_counts : (x : Index) → counts_hold x ≡ false → audit_rule x ≡ flaw A 0
@@ -61,14 +72,9 @@ module _ (x : Index) (n k : ℕ) where
   audit_on h e = let z : n - k ≡ suc (n - (k + 1)) = omega arith in rw (z, e, add-one k)
 
   -- a segment's flaw is the verdict
-  pub audit_stop : (r : code-verdict.Verdict) {l : code-letter.Letter} {j : ℕ} → k < n → verdict_of r ≡ first_flaw k (rules_of x k) → r ≡ code-verdict.Verdict.Flaw l j
-      → verdict_of r ≡ audit_from x (n - k) k
+  pub audit_stop : (r : Flaw) → k < n → verdict_of (Err r) ≡ first_flaw k (rules_of x k) → verdict_of (Err r) ≡ audit_from x (n - k) k
   unfolding audit_from
-  audit_stop r {l} {j} h e q =
-      let found : first_flaw k (rules_of x k) ≡ flaw (letter_of l) j = sym e ∙ ap verdict_of q in
-      let z : n - k ≡ suc (n - (k + 1)) = omega arith in
-      let y : audit_from x (n - k) k ≡ flaw (letter_of l) j = rw (z, found) in
-      ap verdict_of q ∙ sym y
+  audit_stop r h e = let z : n - k ≡ suc (n - (k + 1)) = omega arith in rw (z, sym e) refl
 
   -- no segment is left
   pub audit_end : n ≤ k → audit_from x (n - k) k ≡ well_formed

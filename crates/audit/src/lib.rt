@@ -1,91 +1,77 @@
 // The audit of an index over lent tables: well formed, or the first rule that fails and its segment.
 #![tactic(auto)]
 
-ghost use Rattle.std.specs.Prelude.{◌≡◌, [], ◌≤◌, ◌<◌, length};
-ghost use Rattle.rules.specs.Words.{Facts};
-ghost use Rattle.rules.specs.Record.{index};
-ghost use Rattle.rules.specs.Audit.{first_flaw, rules_of, audit_rule, verdict_of};
-ghost use Rattle.laws.specs.Orders.{orders_of};
+ghost use Rattle.std.specs.Prelude.{◌≡◌, ◌<◌, true, false, MatchResult};
+ghost use Rattle.rules.specs.Words.{when};
+ghost use Rattle.rules.specs.Audit.{well_formed, flaw, letter_of, first_flaw, rules_of, audit_rule, verdict_of};
+ghost use Rattle.rules.specs.Refusals.{index_of};
 ghost use Rattle.audit_rules.specs.Letters.{rules_cto_f};
 
-use rules::{Letter, State, Verdict, Width};
+use rules::{CompactReader, Flaw, Letter, Width};
+use tables::Counted;
 
 // The audit: counts (A) first with segment 0, then segments in order, rules B to F within each.
-pub fn audit(
-    s: State,
-    starts: &[u64],
-    bases: &[u64],
-    offsets: &[u64],
-    widths: &[u8],
-    bytes: &[u8],
-) -> Verdict
-    ensures { verdict_of result ≡ audit_rule (index s starts.now bases.now offsets.now widths.now bytes.now) }
+#[tactic(auto, using(crate::proofs::Order::audit_counts, crate::proofs::Order::audit_start, crate::proofs::Order::audit_on, crate::proofs::Order::audit_stop, crate::proofs::Order::audit_end, laws::proofs::Counts::facts_counts))]
+pub fn audit(x: &CompactReader<'_>) -> Result<(), Flaw>
+    ensures { verdict_of result ≡ audit_rule (index_of x.now) }
 {
-    if !tables::counts_hold(s, starts, bases, offsets, widths, bytes) {
-        return Verdict::Flaw(Letter::A, 0);
+    let Ok(counted) = tables::check_counts(x) else {
+        return Err(Flaw {
+            letter: Letter::A,
+            segment: 0,
+        });
+    };
+    for k in 0..x.state.segments {
+        audit_segment(counted, k)?;
     }
-    let segments = s.segments;
-    let mut k: u64 = 0;
-    while k < segments {
-        let found = audit_segment(s, starts, bases, offsets, widths, bytes, k);
-        let Verdict::WellFormed = found else {
-            return found;
-        };
-        k += 1;
-    }
-    Verdict::WellFormed
+    Ok(())
 }
 
 // The first rule, B to F, that segment k breaks.
-fn audit_segment(
-    s: State,
-    starts: &[u64],
-    bases: &[u64],
-    offsets: &[u64],
-    widths: &[u8],
-    bytes: &[u8],
-    k: u64,
-) -> Verdict
-    requires { Facts (orders_of (index s starts.now bases.now offsets.now widths.now bytes.now)) × (k < s.segments) }
-    ensures { verdict_of result ≡ first_flaw k (rules_of (index s starts.now bases.now offsets.now widths.now bytes.now) k) }
+#[tactic(auto, using(crate::proofs::Order::flaw_here, crate::proofs::Order::flaw_next, crate::proofs::Order::tests_tell), unfolding(rules::specs::Refusals::width_at))]
+fn audit_segment(x: Counted<'_>, k: u64) -> Result<(), Flaw>
+    requires { k < x.index.now.state.segments }
+    ensures { verdict_of result ≡ first_flaw k (rules_of (index_of x.entry.index.now) k) }
 {
-    if !audit_rules::rule_b(s, starts, k) {
-        return Verdict::Flaw(Letter::B, k);
-    }
-    let d = audit_rules::deltas_of(s, starts, k);
-    let Width::Of(w) = tables::width_of(s, widths, k) else {
-        if !audit_rules::rule_e_without_width(s, offsets, k, d) {
-            return Verdict::Flaw(Letter::E, k);
-        }
-        return Verdict::WellFormed;
+    keeps(audit_rules::rule_b(x.index, k), Letter::B, k)?;
+    let d = audit_rules::deltas_of(x.index, k);
+    let Width::Of(w) = tables::width_of(x.index, k) else {
+        return keeps(
+            audit_rules::rule_e_without_width(x.index, k, d),
+            Letter::E,
+            k,
+        );
     };
-    audit_with_width(s, bases, offsets, bytes, k, d, w as u64)
+    audit_with_width(x, k, d, w as u64)
 }
 
 // The first rule, C to F, that segment k breaks with its d deltas of width w.
-fn audit_with_width(
-    s: State,
-    bases: &[u64],
-    offsets: &[u64],
-    bytes: &[u8],
-    k: u64,
-    d: u64,
-    w: u64,
-) -> Verdict
-    requires { (k < s.widths) × (s.widths ≤ s.segments) × (s.segments ≤ length bases.now) × (s.segments ≤ length offsets.now) × (s.used ≤ length bytes.now) × (1 ≤ s.minimum) }
-    ensures { verdict_of result ≡ first_flaw k (rules_cto_f (index s [] bases.now offsets.now [] bytes.now) k d w) }
+#[tactic(auto, using(crate::proofs::Order::flaw_here, crate::proofs::Order::flaw_next, crate::proofs::Order::flaw_last, audit_rules::proofs::Letters::f_same, crate::proofs::Order::tests_tell, laws::proofs::Tests::taken, laws::proofs::Tests::left))]
+fn audit_with_width(x: Counted<'_>, k: u64, d: u64, w: u64) -> Result<(), Flaw>
+    requires { k < x.index.now.state.widths }
+    ensures { verdict_of result ≡ first_flaw k (rules_cto_f (index_of x.entry.index.now) k d w) }
 {
-    if !audit_rules::rule_c(s.minimum, w) {
-        return Verdict::Flaw(Letter::C, k);
+    let index = x.index;
+    keeps(audit_rules::rule_c(index.state.minimum, w), Letter::C, k)?;
+    keeps(audit_rules::rule_d(index, k, w), Letter::D, k)?;
+    keeps(audit_rules::rule_e(index, k, d, w), Letter::E, k)?;
+    let base = index.bases[k as usize];
+    let offset = tables::mark(index, k);
+    keeps(
+        audit_rules::rule_f(index.bytes, base, offset, d, w),
+        Letter::F,
+        k,
+    )
+}
+
+// A rule that segment k keeps, or its letter as the flaw.
+fn keeps(kept: bool, letter: Letter, segment: u64) -> Result<(), Flaw>
+    ensures kept { MatchResult result (λ _. kept ≡ true) (λ _. kept ≡ false) }
+    ensures flaw { verdict_of result ≡ when kept well_formed (flaw (letter_of letter) segment) }
+{
+    if kept {
+        Ok(())
+    } else {
+        Err(Flaw { letter, segment })
     }
-    if !audit_rules::rule_d(s, bases, k, w) {
-        return Verdict::Flaw(Letter::D, k);
-    }
-    if !audit_rules::rule_e(s, offsets, k, d, w) {
-        return Verdict::Flaw(Letter::E, k);
-    }
-    if !audit_rules::rule_f(bytes, bases[k as usize], offsets[k as usize], d, w) {
-        return Verdict::Flaw(Letter::F, k);
-    }
-    Verdict::WellFormed
 }

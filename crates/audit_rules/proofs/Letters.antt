@@ -6,38 +6,20 @@ use Rattle.std.specs.Bool.{MatchBool}
 use Rattle.std.proofs.lemmas.List.FromFn.{length-range_with_len, get_or-range_with_len}
 use Rattle.std.specs.List.{AllWithin, HoldsAt, range_with_len}
 use mathlib.Core.List.{List}
-use mathlib.Core.Path.{◌≡◌, sym, ap, ◌∙◌}
+use mathlib.Core.Path.{◌≡◌, sym}
 use native.Mathlib.Omega.{arith}
 use native.Mathlib.Nat.{pow-le-pow_right, lt_of_lt_of_le}
 use lib.Dec.{ltb, lit<}
 use lib.ListN.{length, get_or}
-use borrow.Author.Tests.{ltb-true, ltb-false, lt-ltb}
+use borrow.Author.Tests.{ltb-true, ltb-false}
 use Rattle.rules.specs.Words.{when_all, all_below}
-use Rattle.rules.specs.Record.{Index, minimum_of, segments_of, widths_of, used_of, base, offset, edge, mark, width_tests}
+use Rattle.rules.specs.Record.{Index, segments_of, base}
 use Rattle.rules.specs.Push.{byte_width, delta_at}
-use Rattle.audit_rules.specs.Letters.{rule_b, rule_c, rule_d, rule_e, rule_f}
+use Rattle.rules.specs.Audit.{tests_f}
+use Rattle.audit_rules.specs.Letters.{rule_d}
 use Rattle.laws.proofs.Tests.{by_test, same_test, facts_of, taken, all_fact, all_held}
 use Rattle.laws.proofs.Widths.{width_holds, width_least}
 use Rattle.laws.proofs.Bytes.{delta_room, delta_at_below}
-
--- a segment's bytes begin at its offset
-mark_at : (x : Index) (k : ℕ) → k < segments_of x → mark x k ≡ offset x k
-mark_at x k h = rw (lt-ltb k (segments_of x) h)
-
--- B leaves room between a segment's edges
-pub b_room : (x : Index) (k : ℕ) → when_all (rule_b x k) true false ≡ true → edge x k < edge x (k + 1)
-b_room x k e =
-    let f = facts_of (rule_b x k) e in
-    by_test (ltb (k + 1) (segments_of x))
-    (λ t. let l = f.1.0 (ltb-true (k + 1) (segments_of x) t) in omega arith)
-    (λ t. let l = f.1.1.0 (ltb-false (k + 1) (segments_of x) t) in rw t l)
-
--- C of a segment with a width: it is m to 8
-pub c_same : (x : Index) (k w : ℕ) → k < widths_of x → when_all (width_tests (minimum_of x) w) true false ≡ when_all (rule_c x k w) true false
-c_same x k w has =
-    same_test _ _
-    (λ t. let f = facts_of (width_tests (minimum_of x) w) t in taken (rule_c x k w) true false (omega arith))
-    (λ t. let f = facts_of (rule_c x k w) t in taken (width_tests (minimum_of x) w) true false (f.0 has, (f.1.0 has, tt)))
 
 -- D: the next base is far enough exactly where the gap takes more than w bytes
 pub d_same : (x : Index) (k w : ℕ) → k + 1 < segments_of x → base x (k + 1) < 2 ^ 64 → base x k ≤ base x (k + 1) → 1 ≤ w
@@ -56,12 +38,6 @@ d_same x k w more small h pos =
     by_test (ltb w (byte_width gap)) (λ u. u)
     (λ u. let n = lt_of_lt_of_le (width_holds gap (omega arith)) (pow-le-pow_right {n = 256} (lit< tt) (ltb-false w (byte_width gap) u)) in absurd (omega arith)))
 
--- E keeps the deltas within used
-pub e_room : (x : Index) (k d w : ℕ) → k < segments_of x → k < widths_of x → when_all (rule_e x k d w) true false ≡ true → offset x k + d * w ≤ used_of x
-e_room x k d w inside has e =
-    let f = facts_of (rule_e x k d w) e in
-    let a = f.1.0 has in let b = f.1.1.0 has in let here = mark_at x k inside in omega arith
-
 -- one number that is not below makes the whole false
 one_over : (n : ℕ) (f : ℕ → ℕ) (b i : ℕ) → i < n → b ≤ f i → all_below n f b ≡ false
 one_over n f b i h l = by_test (all_below n f b) (λ t. let g = all_fact n f b t i h in absurd (omega arith)) (λ t. t)
@@ -75,14 +51,12 @@ f_sure bytes b at d w room small h =
     let e = delta_at_below bytes (length bytes) w (at + i * w) small (omega arith) in omega arith)
 
 -- F of a segment with a width: all its sums are below 2^64
-pub f_same : (x : Index) (k d w : ℕ) → k < segments_of x → k < widths_of x
-    → all_below d (λ i. base x k + delta_at x.bytes (offset x k + i * w) w) (2 ^ 64) ≡ when_all (rule_f x k d w) true false
-f_same x k d w inside has =
-    let sum : ℕ → ℕ = λ i. base x k + delta_at x.bytes (mark x k + i * w) w in
-    ap (λ (at : ℕ). all_below d (λ i. base x k + delta_at x.bytes (at + i * w) w) (2 ^ 64)) (sym (mark_at x k inside))
-    ∙ same_test _ _
-    (λ t. taken (rule_f x k d w) true false ((λ l. all_fact d sum (2 ^ 64) t), tt))
-    (λ t. all_held d sum (2 ^ 64) ((facts_of (rule_f x k d w) t).0 has))
+pub f_same : (widths k d b w at : ℕ) (bytes : List ℕ) → k < widths
+    → all_below d (λ i. b + delta_at bytes (at + i * w) w) (2 ^ 64) ≡ when_all (tests_f widths k d b w at bytes) true false
+f_same widths k d b w at bytes has =
+    let sum : ℕ → ℕ = λ i. b + delta_at bytes (at + i * w) w in
+    let ts = tests_f widths k d b w at bytes in
+    same_test _ _ (λ t. taken ts true false ((λ l. all_fact d sum (2 ^ 64) t), tt)) (λ t. all_held d sum (2 ^ 64) ((facts_of ts t).0 has))
 
 -- the sums tested one by one
 pub tested : (n : ℕ) (f : ℕ → ℕ) (b : ℕ) (r : Bool)

@@ -52,10 +52,7 @@ pub fn rule_e(x: &CompactReader<'_>, k: u64, d: u64, w: u64) -> bool
 {
     let offset = tables::mark(x, k);
     let end = tables::mark(x, k + 1);
-    let Some(sum) = d.checked_mul(w).and_then(|n| offset.checked_add(n)) else {
-        return false;
-    };
-    if !first_is_zero(k, offset) || sum != end {
+    if !first_is_zero(k, offset) || !end_at(offset, d, w, end) {
         return false;
     }
     end <= x.state.used && 1 <= d
@@ -96,4 +93,11 @@ fn first_is_zero(k: u64, entry: u64) -> bool
     ensures { IsTrue result ↔ (k ≡ 0 → entry ≡ 0) }
 {
     k != 0 || entry == 0
+}
+
+// Whether d deltas of w bytes from `offset` on end at `end`.
+fn end_at(offset: u64, d: u64, w: u64, end: u64) -> bool
+    ensures { IsTrue result ↔ (offset + d * w ≡ end) }
+{
+    d.checked_mul(w).and_then(|n| offset.checked_add(n)) == Some(end)
 }

@@ -2,17 +2,23 @@
 #![tactic(auto)]
 
 ghost use Rattle.std.specs.Prelude.{◌≡◌};
-ghost use Rattle.rules.specs.Record.{index, fresh_state, default_minimum, open_rule};
+ghost use Rattle.rules.specs.Record.{index, state_at, fresh_state, default_minimum, open_rule};
 ghost use Rattle.rules.specs.Push.{push_rule, length_rule, size_rule};
 ghost use Rattle.rules.specs.Reading.{get_rule, bisect_rule};
-ghost use Rattle.crossing.specs.Told.{state_at, told, telling};
+ghost use Rattle.crossing.specs.Told.{told, telling};
+
+use crossing::reader;
+use rules::{CompactWriter, State};
 
 // Opens an index with this minimum width: its fresh state goes where the pointer says.
 #[unsafe(no_mangle)]
 pub extern "C" fn rotlantern_open(minimum: u64, state: &mut [u64; 5]) -> u64
     ensures { told result (state_at state.new) ≡ telling (open_rule minimum) (state_at state.old) }
 {
-    crossing::tell_opened(compact_index::compact_index(minimum), state)
+    crossing::tell(
+        compact_index::compact_index(minimum).map(<[u64; 5]>::from),
+        state,
+    )
 }
 
 // Opens an index with the default minimum width; this is never refused.
@@ -20,7 +26,7 @@ pub extern "C" fn rotlantern_open(minimum: u64, state: &mut [u64; 5]) -> u64
 pub extern "C" fn rotlantern_open_default(state: &mut [u64; 5]) -> u64
     ensures { told result (state_at state.new) ≡ told 0 (fresh_state default_minimum) }
 {
-    crossing::store_state(state, compact_index::default_index());
+    *state = compact_index::default_index().into();
     0
 }
 
@@ -39,9 +45,17 @@ pub extern "C" fn rotlantern_push(
     ensures answers { told result position.new ≡ telling (push_rule (index (state_at state.old) starts.old bases.old offsets.old widths.old bytes.old) v).answer position.old }
     ensures leaves { index (state_at state.new) starts.new bases.new offsets.new widths.new bytes.new ≡ (push_rule (index (state_at state.old) starts.old bases.old offsets.old widths.old bytes.old) v).left }
 {
-    let s = crossing::state_at(state);
-    let pushed = compact_writer::push(s, starts, bases, offsets, widths, bytes, v);
-    crossing::tell_pushed(pushed, state, position)
+    let mut x = CompactWriter {
+        state: State::from(*state),
+        starts,
+        bases,
+        offsets,
+        widths,
+        bytes,
+    };
+    let pushed = compact_writer::push(&mut x, v);
+    *state = x.state.into();
+    crossing::tell(pushed, position)
 }
 
 // How many values the index holds.
@@ -57,9 +71,8 @@ pub extern "C" fn rotlantern_length(
 ) -> u64
     ensures { told result value.new ≡ telling (length_rule (index (state_at state.now) starts.now bases.now offsets.now widths.now bytes.now)) value.old }
 {
-    let s = crossing::state_at(state);
     crossing::tell(
-        compact_reader::length(s, starts, bases, offsets, widths, bytes),
+        compact_reader::length(&reader(state, starts, bases, offsets, widths, bytes)),
         value,
     )
 }
@@ -77,9 +90,8 @@ pub extern "C" fn rotlantern_size(
 ) -> u64
     ensures { told result value.new ≡ telling (size_rule (index (state_at state.now) starts.now bases.now offsets.now widths.now bytes.now)) value.old }
 {
-    let s = crossing::state_at(state);
     crossing::tell(
-        compact_reader::size(s, starts, bases, offsets, widths, bytes),
+        compact_reader::size(&reader(state, starts, bases, offsets, widths, bytes)),
         value,
     )
 }
@@ -98,9 +110,8 @@ pub extern "C" fn rotlantern_get(
 ) -> u64
     ensures { told result value.new ≡ telling (get_rule (index (state_at state.now) starts.now bases.now offsets.now widths.now bytes.now) p) value.old }
 {
-    let s = crossing::state_at(state);
     crossing::tell(
-        compact_reader::get(s, starts, bases, offsets, widths, bytes, p),
+        compact_reader::get(&reader(state, starts, bases, offsets, widths, bytes), p),
         value,
     )
 }
@@ -119,9 +130,8 @@ pub extern "C" fn rotlantern_bisect_left(
 ) -> u64
     ensures { told result position.new ≡ telling (bisect_rule (index (state_at state.now) starts.now bases.now offsets.now widths.now bytes.now) v) position.old }
 {
-    let s = crossing::state_at(state);
     crossing::tell(
-        compact_bisect::bisect_left(s, starts, bases, offsets, widths, bytes, v),
+        compact_bisect::bisect_left(&reader(state, starts, bases, offsets, widths, bytes), v),
         position,
     )
 }

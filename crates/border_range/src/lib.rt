@@ -2,10 +2,12 @@
 #![tactic(auto)]
 
 ghost use Rattle.std.specs.Prelude.{◌≡◌};
-ghost use Rattle.rules.specs.Record.{index};
+ghost use Rattle.rules.specs.Record.{index, state_at};
 ghost use Rattle.rules.specs.Reading.{range_rule, run_count_rule, run_value_rule};
 ghost use Rattle.rules.specs.Audit.{audit_rule};
-ghost use Rattle.crossing.specs.Told.{state_at, told, telling, found, verdict_telling};
+ghost use Rattle.crossing.specs.Told.{told, telling, found, verdict_telling};
+
+use crossing::reader;
 
 // The values at a..b, into the output from its first entry; how many goes where the pointer says.
 #[unsafe(no_mangle)]
@@ -24,11 +26,8 @@ pub extern "C" fn rotlantern_get_range(
     ensures answers { told result count.new ≡ telling (range_rule (index (state_at state.now) starts.now bases.now offsets.now widths.now bytes.now) a b out.old).answer count.old }
     ensures writes { out.new ≡ (range_rule (index (state_at state.now) starts.now bases.now offsets.now widths.now bytes.now) a b out.old).left }
 {
-    let s = crossing::state_at(state);
-    crossing::tell(
-        compact_range::get_range(s, starts, bases, offsets, widths, bytes, a, b, out),
-        count,
-    )
+    let x = reader(state, starts, bases, offsets, widths, bytes);
+    crossing::tell(compact_range::get_range(&x, &(a..b), out), count)
 }
 
 // How many deltas of this width a run of bytes holds.
@@ -67,9 +66,8 @@ pub extern "C" fn rotlantern_audit(
 ) -> u64
     ensures { told result (found letter.new segment.new) ≡ told 0 (verdict_telling (audit_rule (index (state_at state.now) starts.now bases.now offsets.now widths.now bytes.now))) }
 {
-    let s = crossing::state_at(state);
     crossing::tell_verdict(
-        audit::audit(s, starts, bases, offsets, widths, bytes),
+        audit::audit(&reader(state, starts, bases, offsets, widths, bytes)),
         letter,
         segment,
     );

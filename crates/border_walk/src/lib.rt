@@ -2,9 +2,12 @@
 #![tactic(auto)]
 
 ghost use Rattle.std.specs.Prelude.{◌≡◌};
-ghost use Rattle.rules.specs.Record.{index};
-ghost use Rattle.rules.specs.Reading.{iter_rule, step_rule};
-ghost use Rattle.crossing.specs.Told.{state_at, cursor_at, told, telling, walked, step_telling};
+ghost use Rattle.rules.specs.Record.{index, state_at};
+ghost use Rattle.rules.specs.Reading.{cursor_at, iter_rule, step_rule};
+ghost use Rattle.crossing.specs.Told.{told, telling, walked, step_telling};
+
+use crossing::reader;
+use rules::Cursor;
 
 // Opens a walk over a..b; the cursor, next and end, goes where the pointer says.
 #[unsafe(no_mangle)]
@@ -21,9 +24,9 @@ pub extern "C" fn rotlantern_iter(
 ) -> u64
     ensures { told result (cursor_at cursor.new) ≡ telling (iter_rule (index (state_at state.now) starts.now bases.now offsets.now widths.now bytes.now) a b) (cursor_at cursor.old) }
 {
-    let s = crossing::state_at(state);
-    crossing::tell_walk(
-        compact_iterator::iter(s, starts, bases, offsets, widths, bytes, a, b),
+    let x = reader(state, starts, bases, offsets, widths, bytes);
+    crossing::tell(
+        compact_iterator::iter(&x, &(a..b)).map(<[u64; 2]>::from),
         cursor,
     )
 }
@@ -43,10 +46,9 @@ pub extern "C" fn rotlantern_next(
 ) -> u64
     ensures { told result (walked (cursor_at cursor.new) value.new done.new) ≡ step_telling (step_rule (index (state_at state.now) starts.now bases.now offsets.now widths.now bytes.now) (cursor_at cursor.old)) (walked (cursor_at cursor.old) value.old done.old) }
 {
-    let c = crossing::cursor_at(cursor);
-    let s = crossing::state_at(state);
+    let c = Cursor::from(*cursor);
     crossing::tell_step(
-        compact_iterator::step(c, s, starts, bases, offsets, widths, bytes),
+        compact_iterator::step(c, &reader(state, starts, bases, offsets, widths, bytes)),
         cursor,
         value,
         done,

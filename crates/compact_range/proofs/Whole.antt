@@ -4,19 +4,14 @@ use mathlib.Core.Bool.{Bool, true, false}
 use mathlib.Core.List.{List, [], ◌∷◌}
 use mathlib.Core.Path.{◌≡◌, refl, sym, ap, ◌∙◌}
 use native.Mathlib.Omega.{arith}
-use lib.Dec.{leb, ltb, eqb}
+use lib.Dec.{ltb, eqb}
 use lib.ListN.{length, set}
 use lib.Seq.{sets}
-use borrow.Author.Tests.{lt-leb, le-leb, lt-ltb}
-use Rattle.rules.specs.declared.Refusal.{Refusal}
-use Rattle.rules.specs.Words.{when, unless, Answer, value, refused}
+use borrow.Author.Tests.{lt-ltb}
+use Rattle.rules.specs.Words.{when, Answer, value, refused}
 use Rattle.rules.specs.Record.{Index, minimum_of, length_of, widths_of, used_of, start, base, offset, width, counts_hold}
-use Rattle.rules.specs.Reading.{damaged, delta_read, read_in, starts_up_to, get_rule, before, reads, ranged, written, range_rule}
-use Rattle.rules.specs.Refusals.{number_of}
+use Rattle.rules.specs.Reading.{damaged, delta_read, read_in, starts_up_to, get_rule, before, reads, ranged, written}
 use Rattle.laws.proofs.Tests.{false_not_true, when_all_case}
-use Rattle.tables.specs.declared.Checked.{Checked}
-use Rattle.tables.specs.Range.{checked_of, check_rule}
-use Rattle.tables.proofs.Range as check
 use Rattle.range_reads.specs.Values.{is_value}
 use Rattle.range_write.specs.Puts.{value_of, gets, puts}
 use Rattle.range_write.proofs.Given.{reads_at}
@@ -105,31 +100,12 @@ unfolding reads
 reads_or x zero a c h = value_or []
 reads_or x (suc n) a c h = before_or (get_rule x a) (reads x (suc a) n) (get_rule_or x a c (omega arith)) (reads_or x n (suc a) c (omega arith))
 
--- the returns of get_range, in its order
-module _ (x : Index) (a b : ℕ) (out : List ℕ) where
-  -- what check_range refuses
-  pub range_refused : {c : Checked} {e : Refusal} → checked_of c ≡ check_rule x a b → c ≡ Checked.Refused e → ranged (refused (number_of e)) out ≡ range_rule x a b out
-  unfolding range_rule
-  range_refused r e = ap (written out) (check.range_refused x a b (unless (leb (b - a) (length out)) (refused 8) (reads x a (b - a))) r e)
+-- a range within the length that is no value is damaged
+pub range_damaged : (x : Index) (a b : ℕ) → is_value (reads x a (b - a)) ≡ false → counts_hold x ≡ true → a ≤ b → b ≤ length_of x → reads x a (b - a) ≡ damaged
+range_damaged x a b e c h l = reads_or x (b - a) a c (omega arith) e
 
-  module _ (ok : (counts_hold x ≡ true) × (b ≤ length_of x) × (a ≤ b)) where
-    -- too little room
-    pub range_room : length out < b - a → ranged (refused 8) out ≡ range_rule x a b out
-    unfolding range_rule
-    range_room o = rw (ok.0, le-leb b (length_of x) ok.1, le-leb a b ok.2, lt-leb (b - a) (length out) o, range_rule)
-
-    -- a read that is no value
-    pub range_damaged : b - a ≤ length out → is_value (reads x a (b - a)) ≡ false → ranged (refused 10) out ≡ range_rule x a b out
-    unfolding range_rule
-    range_damaged o r =
-        let d = reads_or x (b - a) a ok.0 (omega arith) r in
-        rw (ok.0, le-leb b (length_of x) ok.1, le-leb a b ok.2, le-leb (b - a) (length out) o, d, range_rule)
-
-    -- all values, put
-    pub range_values : b - a ≤ length out → is_value (reads x a (b - a)) ≡ true → (left : List ℕ) → left ≡ puts (gets x a) 0 (b - a) out
-        → ranged (value (b - a)) left ≡ range_rule x a b out
-    unfolding range_rule
-    range_values o r left q =
-        let f = reads_firsts x (b - a) a (gets x a) (λ i h. value_is (get_rule x (a + i)) (reads_at x (b - a) a r (a + i) (omega arith) (omega arith))) in
-        let n = firsts_length (gets x a) (b - a) in
-        rw (q, puts_sets (gets x a) 0 (b - a) out, ok.0, le-leb b (length_of x) ok.1, le-leb a b ok.2, le-leb (b - a) (length out) o, f, n, range_rule)
+-- and one that is a value is its gets, put into the output
+pub range_written : (x : Index) (a n : ℕ) (out : List ℕ) → is_value (reads x a n) ≡ true → written out (reads x a n) ≡ ranged (value n) (puts (gets x a) 0 n out)
+range_written x a n out e =
+    let f = reads_firsts x n a (gets x a) (λ i h. value_is (get_rule x (a + i)) (reads_at x n a e (a + i) (omega arith) (omega arith))) in
+    rw (f, firsts_length (gets x a) n, puts_sets (gets x a) 0 n out)

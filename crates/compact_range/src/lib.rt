@@ -2,43 +2,28 @@
 #![tactic(auto)]
 
 ghost use Rattle.std.specs.Prelude.{◌≡◌};
-ghost use Rattle.rules.specs.Record.{index};
 ghost use Rattle.rules.specs.Reading.{ranged, range_rule};
-ghost use Rattle.rules.specs.Refusals.{answer_of};
+ghost use Rattle.rules.specs.Refusals.{answer_of, index_of};
 
-use rules::{Got, Refusal, State};
-use tables::Checked;
+use range_find::Finder;
+use rules::{CompactReader, Refusal};
+use std::ops::Range;
 
-// Puts the values at a..b into the output from its first entry on and answers how many; if any of them is damaged, none is written.
-pub fn get_range(
-    s: State,
-    starts: &[u64],
-    bases: &[u64],
-    offsets: &[u64],
-    widths: &[u8],
-    bytes: &[u8],
-    a: u64,
-    b: u64,
-    out: &mut [u64],
-) -> Got
-    ensures { ranged (answer_of result) out.new ≡ range_rule (index s starts.now bases.now offsets.now widths.now bytes.now) a b out.old }
+// Puts the range's values into the output from its first entry on and answers how many; if any of them is damaged, none is written.
+#[tactic(auto, using(crate::proofs::Whole::range_damaged, crate::proofs::Whole::range_written), unfolding(rules::specs::Reading::range_rule))]
+pub fn get_range(x: &CompactReader<'_>, range: &Range<u64>, out: &mut [u64]) -> Result<u64, Refusal>
+    ensures { ranged (answer_of result) out.new ≡ range_rule (index_of x.now) range.now.start range.now.end out.old }
 {
-    let checked = tables::check_range(s, starts, bases, offsets, widths, bytes, a, b);
-    if let Checked::Refused(e) = checked {
-        return Got::Refused(e);
+    let c = tables::check_range(x, range)?;
+    let count = range.end - range.start;
+    if (out.len() as u64) < count {
+        return Err(Refusal::OutputRoom);
     }
-    if (out.len() as u64) < b - a {
-        return Got::Refused(Refusal::OutputRoom);
+    let starts = &x.starts[..x.state.segments as usize];
+    let finder = Finder::new(starts, range);
+    if !range_reads::range_reads(c, &finder, range.start) {
+        return Err(Refusal::Damaged);
     }
-    let rising = range_find::rises(starts, s.segments, b - a);
-    let known = range_find::look_ahead(starts, s.segments, a, b);
-    if !range_reads::range_reads(
-        s, starts, bases, offsets, widths, bytes, rising, known, a, b,
-    ) {
-        return Got::Refused(Refusal::Damaged);
-    }
-    range_write::range_write(
-        s, starts, bases, offsets, widths, bytes, rising, known, a, b, out,
-    );
-    Got::Value(b - a)
+    range_write::range_write(c, &finder, range.start, out);
+    Ok(count)
 }

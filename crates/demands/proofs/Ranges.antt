@@ -2,7 +2,7 @@
 use Prim.Native.Nat.{ℕ, zero, suc, ◌+◌, ◌-◌, ◌≤◌, ◌<◌, min, max}
 use mathlib.Core.Bool.{true}
 use mathlib.Core.List.{List, [], ◌∷◌, ◌++◌}
-use mathlib.Core.Path.{◌≡◌, refl, sym}
+use mathlib.Core.Path.{◌≡◌, refl}
 use native.Mathlib.Omega.{arith}
 use native.Mathlib.Nat.{zero-add}
 use lib.Dec.{leb}
@@ -14,7 +14,6 @@ use Rattle.rules.specs.Record.{Index, length_of, counts_hold}
 use Rattle.rules.specs.Reading.{in_range, reads, ranged, range_rule, cursor, iter_rule, span, target_end, target_rule, bisect_range_rule}
 use Rattle.rules.specs.Run.{how_many, NeverFalls}
 use Rattle.laws.proofs.Tests.{by_test}
-use Rattle.laws.proofs.Answers.{value_refused}
 use Rattle.demands.proofs.WellFormed.{WellFormed}
 use Rattle.demands.proofs.Bounds.{counts_hold_lem}
 use Rattle.demands.proofs.Run.{Keeps}
@@ -37,9 +36,9 @@ module _ (x : Index) (a b : ℕ) where
       (λ t. by_test (leb b (length_of x))
       (λ u. by_test (leb a b)
       (λ s. (t, leb-true b (length_of x) u, leb-true a b s))
-      (λ s. value_refused (sym (rw (t, u, s) at e))))
-      (λ u. value_refused (sym (rw (t, u) at e))))
-      (λ t. value_refused (sym (rw t at e)))
+      (λ s. let z = rw (t, u, s) at e in cc))
+      (λ u. let z = rw (t, u) at e in cc))
+      (λ t. let z = rw t at e in cc)
 
   -- opening a cursor over it
   pub iter_opens : Within x a b → iter_rule x a b ≡ value (cursor a b)

@@ -9,7 +9,6 @@ use Rattle.rules.specs.Words.{Answer, value, refused}
 use Rattle.rules.specs.Record.{Room, Index, length_of, segments_of, widths_of, used_of, room_of}
 use Rattle.rules.specs.Push.{delta_bytes, Plan, refuse, segment, first, more, plan_of, effect, push_rule}
 use Rattle.rules.specs.Run.{run, if_taken, accepted}
-use Rattle.laws.proofs.Answers.{value_refused}
 use Rattle.demands.specs.Terms.{RoomFor}
 use Rattle.demands.proofs.WellFormed.{WellFormed}
 use Rattle.demands.proofs.Push.{Allowed, plan_allowed}
@@ -40,9 +39,9 @@ accepted_most (v ∷ us) x =
 -- a plan that is refused is that refusal
 plan_refused : (x : Index) (v e : ℕ) (p : Plan) → Allowed x v p → (effect x v p).answer ≡ refused e → Allowed x v (refuse e)
 plan_refused x v e (refuse f) a q = let t : f ≡ e = cc in rw t at a
-plan_refused x v e segment a q = value_refused q
-plan_refused x v e (first d w) a q = value_refused q
-plan_refused x v e (more d w) a q = value_refused q
+plan_refused x v e segment a q = cc
+plan_refused x v e (first d w) a q = cc
+plan_refused x v e (more d w) a q = cc
 
 -- what a refused push on a well-formed index says: 1 to 4, and 1 where there is room
 push_refused : (x : Index) → WellFormed x → (v e : ℕ) → (push_rule x v).answer ≡ refused e → Allowed x v (refuse e)

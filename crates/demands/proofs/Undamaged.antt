@@ -11,7 +11,6 @@ use Rattle.rules.specs.Words.{unless, Answer, value, refused, and_then}
 use Rattle.rules.specs.Record.{Index, length_of}
 use Rattle.rules.specs.Reading.{get_rule, in_range, reads, written, range_rule, Stepped, stays, moved, step_rule, target_end, target_rule, bisect_rule, bisect_range_rule}
 use Rattle.laws.proofs.Tests.{when_case}
-use Rattle.laws.proofs.Answers.{value_refused}
 use Rattle.demands.proofs.Compare.{by_less}
 use Rattle.demands.proofs.WellFormed.{WellFormed}
 use Rattle.demands.proofs.Bounds.{counts_hold_lem}
@@ -26,7 +25,7 @@ Undamaged (refused e) = e ≡ 10 → ⊥
 
 -- so it is not 10
 pub not_ten : {A : Type 0} (a : Answer A) → Undamaged a → a ≡ refused 10 → ⊥
-not_ten (value a) u e = value_refused e
+not_ten (value a) u e = cc
 not_ten (refused n) u e = u cc
 
 -- an undamaged answer that goes on to undamaged ones

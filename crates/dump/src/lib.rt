@@ -2,9 +2,7 @@
 #![tactic(auto)]
 
 ghost use Rattle.std.specs.Prelude.{◌≡◌};
-ghost use Rattle.rules.specs.Refusals.{SameTables, answer_of, index_in};
-ghost use Rattle.rules.specs.Record.{fresh_state, default_minimum};
-ghost use Rattle.rules.specs.Push.{push_rule, outcome};
+ghost use Rattle.rules.specs.Refusals.{SameTables};
 ghost use Rattle.dump.specs.Feeding.{fed_of, nothing, with_byte, byte_rule, feed_rule};
 
 use rules::{CompactWriter, Refusal};
@@ -40,7 +38,7 @@ impl<'a> Feed<'a> {
     {
         Feed {
             index: CompactWriter {
-                state: default_index(),
+                state: compact_index::default_index(),
                 starts,
                 bases,
                 offsets,
@@ -81,23 +79,8 @@ impl<'a> Feed<'a> {
         }
         self.count = 0;
         self.partial = 0;
-        self.refusal = push(&mut self.index, value).err();
+        self.refusal = compact_writer::push(&mut self.index, value).err();
     }
-}
-
-// STUB
-fn default_index() -> rules::State
-    ensures { result ≡ fresh_state default_minimum }
-{
-    rules::State { minimum: 1, length: 0, segments: 0, widths: 0, used: 0 }
-}
-
-// STUB
-fn push(x: &mut CompactWriter<'_>, v: u64) -> Result<u64, Refusal>
-    ensures answers { outcome (answer_of result) (index_in x.new) ≡ push_rule (index_in x.old) v }
-    ensures lent { SameTables x.new x.old }
-{
-    Ok(v)
 }
 
 // A value's bytes with one more on top: the ones before it move down.

@@ -9,7 +9,6 @@ use borrow.Author.Tests.{leb-true, leb-false, ltb-true, ltb-false, eqb-true, eqb
 use Rattle.rules.specs.Words.{when, Answer, value, refused, and_then, Test, Facts, when_all}
 use Rattle.rules.specs.Reading.{before}
 use Rattle.laws.proofs.Tests.{by_test, when_case, when_all_case}
-use Rattle.laws.proofs.Answers.{value_refused}
 use Rattle.promises.specs.Sentences.{Sentence, ◌if◌, Given, None, Exactly}
 use Rattle.promises.specs.Table.{Outside}
 
@@ -32,23 +31,15 @@ some_given [] e g n = g
 some_given (s ∷ t) e (inl g) n = n.0 g.0
 some_given (s ∷ t) e (inr g) n = some_given t e g.1 n.1
 
--- a value is one
-pub one_value : {A : Type 0} (v w : A) → value v ≡ value w → v ≡ w
-one_value v w q = cc
-
--- a refusal has one number
-pub one_number : {A : Type 0} (d e : ℕ) → ◌≡◌ {A = Answer A} (refused d) (refused e) → d ≡ e
-one_number d e q = cc
-
 -- an answer that is decided keeps to the sentences
 pub exactly : {A : Type 0} {t : List Sentence} {a : Answer A} → Decided t a → Exactly t a
 exactly {t} (none {v} n) = record {
-  refuses = λ e. (λ q. value_refused q, λ g. absurd (some_given t e g n));
+  refuses = λ e. (λ q. cc, λ g. absurd (some_given t e g n));
   answers = (λ a. n, λ m. (v, refl));
 }
 exactly {t} (given {e = d} g) = record {
-  refuses = λ e. (λ q. rw (one_number d e q) at g, λ h. rw (one_given t d e g h));
-  answers = (λ a. value_refused (sym a.1), λ m. absurd (some_given t d g m));
+  refuses = λ e. (λ q. let n : d ≡ e = cc in rw n at g, λ h. rw (one_given t d e g h));
+  answers = (λ a. cc (a.1), λ m. absurd (some_given t d g m));
 }
 
 -- the first sentence applies

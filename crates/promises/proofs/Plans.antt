@@ -3,7 +3,7 @@ use Prim.Native.Nat.{ℕ, ◌+◌, ◌-◌, ◌≤◌}
 use mathlib.Core.Bool.{true}
 use mathlib.Core.List.{List, [], ◌∷◌}
 use mathlib.Core.Logic.{inl, inr}
-use mathlib.Core.Path.{◌≡◌, refl, sym}
+use mathlib.Core.Path.{◌≡◌, refl}
 use native.Mathlib.Omega.{arith}
 use lib.Dec.{ltb, eqb}
 use lib.ListN.{length}
@@ -15,7 +15,6 @@ use Rattle.rules.specs.Push as rule
 use Rattle.laws.proofs.Tests.{when_case, when_all_case}
 use Rattle.laws.proofs.Counts.{counts_facts}
 use Rattle.laws.proofs.Widths.{width_most}
-use Rattle.laws.proofs.Answers.{value_refused}
 use Rattle.promises.specs.Table.{HasWidth, WidthDue, SegmentDue, need}
 use Rattle.promises.specs.Kept.{Kept, Appended}
 use Rattle.promises.proofs.Stores.{kept_all, kept_set, kept_bytes}
@@ -84,7 +83,7 @@ module _ (x : Index) (v : ℕ) where
 
   -- what each plan leaves
   pub plan_appended : (p : ℕ) (plan : Plan) → Due x v plan → (effect x v plan).answer ≡ value p → Appended x (effect x v plan).left
-  plan_appended p (refuse e) d q = value_refused (sym q)
+  plan_appended p (refuse e) d q = cc
   plan_appended p segment d q = record {
     minimum = refl;
     length = refl;

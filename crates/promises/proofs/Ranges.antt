@@ -9,18 +9,17 @@ use lib.ListN.{length, get_or}
 use Rattle.rules.specs.Words.{when, Answer, value, refused}
 use Rattle.rules.specs.Record.{Index}
 use Rattle.rules.specs.Reading.{get_rule, reads}
-use Rattle.laws.proofs.Answers.{value_refused, before_value}
-use Rattle.promises.proofs.Deciding.{one_value}
+use Rattle.laws.proofs.Answers.{before_value}
 
 -- what a choice against a refusal answers, where it answers
 pub through : {A : Type 0} (t : Bool) (a : Answer A) (e : ℕ) (v : A) → when t a (refused e) ≡ value v → (t ≡ true) × (a ≡ value v)
 through true a e v q = (refl, q)
-through false a e v q = value_refused (sym q)
+through false a e v q = cc
 
 -- as many values as positions
 pub reads_many : (x : Index) (a n : ℕ) (vs : List ℕ) → reads x a n ≡ value vs → length vs ≡ n
 unfolding reads
-reads_many x a zero vs q = rw (one_value vs [] (sym q))
+reads_many x a zero vs q = let e : vs ≡ [] = cc in rw e
 reads_many x a (suc n) vs q =
     let s = before_value (get_rule x a) (reads x (suc a) n) vs q in
     rw (sym s.4, reads_many x (suc a) n s.1 s.3)

@@ -15,13 +15,10 @@ use Rattle.rules.specs.Record.{Index, length_of, counts_hold}
 use Rattle.rules.specs.Push.{Plan, refuse, segment, first, more, plan_of, effect, push_rule}
 use Rattle.rules.specs.Reading.{get_rule, in_range, reads, written, range_rule, stays, moved, step_rule}
 use Rattle.laws.proofs.Tests.{when_case}
-use Rattle.laws.proofs.Answers.{value_refused}
 use Rattle.promises.specs.Kept.{Appended, Does, Filled}
-use Rattle.promises.proofs.Deciding.{one_value}
 use Rattle.promises.proofs.Stores.{kept_sets, sets_at}
 use Rattle.promises.proofs.Plans.{Due, plan_due, plan_appended}
 use Rattle.promises.proofs.Ranges.{through, reads_many, reads_entry}
-use Rattle.promises.proofs.Steps.{done_stays, gave_stays, same_cursor}
 
 -- a refused push leaves the state and every entry of the five tables
 pub push_refused : (x : Index) (v e : ℕ) → (push_rule x v).answer ≡ refused e → (push_rule x v).left ≡ x
@@ -30,9 +27,9 @@ push_refused x v e q = by_plan (plan_of x v) q
   where
     by_plan : (p : Plan) → (effect x v p).answer ≡ refused e → (effect x v p).left ≡ x
     by_plan (refuse d) q = refl
-    by_plan segment q = value_refused q
-    by_plan (first d n) q = value_refused q
-    by_plan (more d w) q = value_refused q
+    by_plan segment q = cc
+    by_plan (first d n) q = cc
+    by_plan (more d w) q = cc
 
 module _ (x : Index) (v : ℕ) where
   -- an accepted push did what was due
@@ -41,7 +38,7 @@ module _ (x : Index) (v : ℕ) where
   push_does p q = by_plan (plan_of x v) (plan_due x v) q
     where
       by_plan : (plan : Plan) → Due x v plan → (effect x v plan).answer ≡ value p → Does x v (effect x v plan).left
-      by_plan (refuse e) d q = value_refused (sym q)
+      by_plan (refuse e) d q = cc
       by_plan segment d q = inl (d, refl)
       by_plan (first k n) d q = inr (inl (d.0, rw (d.1, d.2)))
       by_plan (more k w) d q = inr (inr (d.0, rw d.2 at d.3, rw (d.1, d.2)))
@@ -52,10 +49,10 @@ module _ (x : Index) (v : ℕ) where
   push_answers p q = by_plan (plan_of x v) q
     where
       by_plan : (plan : Plan) → (effect x v plan).answer ≡ value p → p ≡ length_of x
-      by_plan (refuse e) q = value_refused (sym q)
-      by_plan segment q = one_value p (length_of x) (sym q)
-      by_plan (first k n) q = one_value p (length_of x) (sym q)
-      by_plan (more k w) q = one_value p (length_of x) (sym q)
+      by_plan (refuse e) q = cc
+      by_plan segment q = cc
+      by_plan (first k n) q = cc
+      by_plan (more k w) q = cc
 
   -- an accepted push leaves all entries but those that it appends
   pub push_appends : (p : ℕ) → (push_rule x v).answer ≡ value p → Appended x (push_rule x v).left
@@ -72,7 +69,7 @@ unfolding range_rule
 range_refused x a b out e q = by_answer (values_of x a b out) q
   where
     by_answer : (r : Answer (List ℕ)) → (written out r).answer ≡ refused e → (written out r).left ≡ out
-    by_answer (value vs) q = value_refused q
+    by_answer (value vs) q = cc
     by_answer (refused d) q = refl
 
 -- get_range that answers has read every position of a..b, and leaves the output from b - a on
@@ -82,7 +79,7 @@ range_fills x a b out n q = by_answer (values_of x a b out) refl q
   where
     by_answer : (r : Answer (List ℕ)) → values_of x a b out ≡ r
         → (written out r).answer ≡ value n → Filled x a b out n (written out r).left
-    by_answer (refused e) h q = value_refused (sym q)
+    by_answer (refused e) h q = cc
     by_answer (value vs) h q =
         let t = through (counts_hold x) _ 9 vs h in
         let u = through (leb b (length_of x)) _ 6 vs t.1 in
@@ -91,7 +88,7 @@ range_fills x a b out n q = by_answer (values_of x a b out) refl q
         let many = reads_many x a (b - a) vs r.1 in
         let room = leb-true (b - a) (length out) r.0 in
         record {
-          count = sym (one_value (length vs) n q) ∙ many;
+          count = let s : length vs ≡ n = cc in sym s ∙ many;
           values = λ i l.
               let e : get_or (sets out 0 vs) i 0 ≡ get_or vs i 0 = rw (zero-add i) at (sets_at vs out 0 i (omega arith) (omega arith)) in
               rw e (reads_entry x a (b - a) vs r.1 i l);
@@ -101,8 +98,8 @@ range_fills x a b out n q = by_answer (values_of x a b out) refl q
 -- a step that refuses stays
 pub step_refused : (x : Index) (c d : Cursor) (e : ℕ) → step_rule x c ≡ stays e d → d ≡ c
 unfolding step_rule
-step_refused x c d e = when_case (λ s. s ≡ stays e d → d ≡ c) (leb c.end c.next) (λ t q. done_stays e d q) (λ t. by_answer (get_rule x c.next))
+step_refused x c d e = when_case (λ s. s ≡ stays e d → d ≡ c) (leb c.end c.next) (λ t q. cc) (λ t. by_answer (get_rule x c.next))
   where
     by_answer : (r : Answer ℕ) → moved c r ≡ stays e d → d ≡ c
-    by_answer (value v) q = gave_stays v e _ d q
-    by_answer (refused f) q = same_cursor f e c d q
+    by_answer (value v) q = cc
+    by_answer (refused f) q = cc

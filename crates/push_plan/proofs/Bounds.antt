@@ -54,5 +54,5 @@ plan_bounds x v =
     (λ h. tt)
 
 -- what the code plans has room
-pub code_bounds : (x : Index) (v : ℕ) (p : Result code.Plan Refusal) → planned p ≡ plan_of x v → HasRoom x (planned p)
-code_bounds x v p e = subst (HasRoom x) (sym e) (plan_bounds x v)
+pub bounds : (x : Index) (v : ℕ) (p : Result code.Plan Refusal) → planned p ≡ plan_of x v → HasRoom x (planned p)
+bounds x v p e = subst (HasRoom x) (sym e) (plan_bounds x v)

@@ -42,7 +42,7 @@ pub fn plan_push(x: &CompactReader<'_>, v: u64) -> Result<Plan, Refusal>
 // The plan where a new segment is due: start it if it has room.
 #[tactic(auto, unfolding(rules::specs::Words::when_all, rules::specs::Push::segment_plan))]
 fn plan_segment(x: Counted<'_>) -> Result<Plan, Refusal>
-    ensures { planned result ≡ segment_plan x.entry.index.now.state (room_of (index_of x.entry.index.now)) }
+    ensures { let i = index_of x.entry.index.now in planned result ≡ segment_plan i.state (room_of i) }
 {
     let x = x.index;
     let segments = x.state.segments;
@@ -64,7 +64,7 @@ fn plan_segment(x: Counted<'_>) -> Result<Plan, Refusal>
 // The plan where the last segment has this base and no width.
 #[tactic(auto, unfolding(rules::specs::Words::when_all, rules::specs::Push::first_plan))]
 fn plan_first(x: Counted<'_>, base: u64, v: u64) -> Result<Plan, Refusal>
-    ensures { planned result ≡ first_plan x.entry.index.now.state (room_of (index_of x.entry.index.now)) base v }
+    ensures { let i = index_of x.entry.index.now in planned result ≡ first_plan i.state (room_of i) base v }
 {
     if v < base {
         return Err(Refusal::Below);
@@ -83,7 +83,7 @@ fn plan_first(x: Counted<'_>, base: u64, v: u64) -> Result<Plan, Refusal>
 // The plan where the last segment has this base and this width.
 #[tactic(auto, unfolding(rules::specs::Words::when_all, rules::specs::Push::next_plan))]
 fn plan_next(x: Counted<'_>, base: u64, width: u64, v: u64) -> Result<Plan, Refusal>
-    ensures { planned result ≡ next_plan x.entry.index.now.state (room_of (index_of x.entry.index.now)) base width v }
+    ensures { let i = index_of x.entry.index.now in planned result ≡ next_plan i.state (room_of i) base width v }
 {
     let minimum = x.index.state.minimum;
     if width < minimum {
@@ -110,7 +110,7 @@ fn plan_next(x: Counted<'_>, base: u64, width: u64, v: u64) -> Result<Plan, Refu
 #[tactic(auto, unfolding(rules::specs::Words::when_all))]
 fn data_room(x: Counted<'_>, due: u64) -> bool
     requires { due ≤ 8 }
-    ensures { result ≡ when_all (data_room x.entry.index.now.state (room_of (index_of x.entry.index.now)) due) true false }
+    ensures { let i = index_of x.entry.index.now in result ≡ when_all (data_room i.state (room_of i) due) true false }
 {
     let end = x.index.state.used + due;
     end <= x.index.bytes.len() as u64 && end <= rules::DATA_LIMIT

@@ -1,12 +1,13 @@
 -- Which reads of a range give a value: in a segment that is sure, in the segment that a search found, and over the whole range.
-use Prim.Native.Nat.{ℕ, zero, suc, ◌+◌, ◌-◌, ◌*◌, ◌/◌, ◌^◌, ◌≤◌, ◌<◌}
+use Prim.Native.Nat.{ℕ, zero, suc, ◌+◌, ◌-◌, ◌*◌, ◌^◌, ◌≤◌, ◌<◌}
 use mathlib.Core.Bool.{true, false}
 use mathlib.Core.List.{List}
 use mathlib.Core.Path.{◌≡◌, refl, ap, ◌∙◌}
 use native.Mathlib.Omega.{arith}
-use native.Mathlib.Nat.{le_trans}
+use Rattle.std.specs.List.{between}
+use Rattle.std.proofs.lemmas.List.Edits.{length-between, get_or-between}
 use lib.Dec.{ltb, eqb}
-use lib.ListN.{length, take, get_or}
+use lib.ListN.{length, take}
 use borrow.Author.Tests.{ltb-true, ltb-false, eqb-true, eqb-false, leb-true, lt-ltb, le-ltb, ne_eqb}
 use Rattle.rules.specs.Words.{Answer, value, refused, Facts}
 use Rattle.rules.specs.Record.{Index, minimum_of, length_of, segments_of, widths_of, used_of, start, base, offset, width}
@@ -16,25 +17,28 @@ use Rattle.laws.specs.Orders.{orders_of}
 use Rattle.laws.proofs.Tests.{by_test, false_not_true, taken}
 use Rattle.laws.proofs.Counts.{facts_counts}
 use Rattle.laws.proofs.Halving.{halving_edge}
-use Rattle.laws.proofs.Bytes.{delta_at_below, room_fits}
 use Rattle.laws.proofs.InUse.{halving_in_use}
 use Rattle.index_stream.specs.declared.Found.{Found}
 use Rattle.index_stream.specs.Searches.{Finds}
-use Rattle.range_reads.specs.Values.{is_value, Values, Sure}
+use Rattle.range_reads.specs.Values.{is_value, Values, Sure, Run}
 
--- what makes the reads of segment k sure up to `until`, whatever its deltas are: a width w within m to 8, room for every delta, and
--- a base that any delta of w bytes may be added to
+-- what makes the reads of segment k sure up to `until`, whatever its deltas are: a width w within m to 8, and a run of them in the bytes in use
 pub record Frame (x : Index) (k until w : ℕ) : Type 0 where
   pub has : ltb k (widths_of x) ≡ true
   pub is : width x k ≡ w
-  pub some : 1 ≤ minimum_of x
   pub least : minimum_of x ≤ w
   pub most : w ≤ 8
   pub from : offset x k ≤ used_of x
-  pub room : until - start x k - 1 ≤ (used_of x - offset x k) / w
-  pub sum : base x k + 256 ^ w ≤ 2 ^ 64
   pub within : used_of x ≤ length x.bytes
-  pub bytes : (i : ℕ) → i < length x.bytes → get_or x.bytes i 0 < 256
+  pub run : Run (between (offset x k) (used_of x) x.bytes) (base x k) w (until - start x k - 1)
+
+-- a delta in the bytes from one up to another is one in all of them
+pub delta_between : (bytes : List ℕ) (from to at w : ℕ) → from + at + w ≤ to → delta_at (between from to bytes) at w ≡ delta_at bytes (from + at) w
+unfolding delta_at
+delta_between bytes from to at zero h = refl
+delta_between bytes from to at (suc w) h =
+    let e : from + suc at ≡ suc (from + at) = omega arith in
+    rw (get_or-between bytes from to at 0 (omega arith), delta_between bytes from to (suc at) w (omega arith), e)
 
 -- a delta whose tests hold is a value
 delta_sure : (m used : ℕ) (bytes : List ℕ) (base offset i w : ℕ) → m ≤ w → w ≤ 8 → offset + i * w + w ≤ used → base + delta_at bytes (offset + i * w) w < 2 ^ 64
@@ -51,15 +55,12 @@ frame_reads x k until w q f h l =
     (λ t.
     let i = q - start x k - 1 in
     let n = eqb-false q (start x k) t in
-    let g = f.room in
+    let r = f.run i (omega arith) in
     let o = f.from in
-    let r = room_fits (used_of x - offset x k) i w (le_trans f.some f.least) (omega arith) in
-    let e : offset x k + i * w + w ≤ used_of x = omega arith in
-    let u = f.within in
-    let d = delta_at_below x.bytes (length x.bytes) w (offset x k + i * w) f.bytes (omega arith) in
-    let b = f.sum in
+    let u = length-between x.bytes (offset x k) (used_of x) f.within in
+    let d = delta_between x.bytes (offset x k) (used_of x) (i * w) w (omega arith) in
     rw (le-ltb q (start x k) h, t, f.has, f.is, read_in)
-    (delta_sure (minimum_of x) (used_of x) x.bytes (base x k) (offset x k) i w f.least f.most e (omega arith)))
+    (delta_sure (minimum_of x) (used_of x) x.bytes (base x k) (offset x k) i w f.least f.most (omega arith) (omega arith)))
 
 -- no position is sure yet
 pub sure_none : (x : Index) (k p until : ℕ) → p < until → Sure x k p until p

@@ -1,7 +1,8 @@
 -- Which reads give a value: one, each from a position up to another, and those that are sure.
-use Rattle.std.specs.Prelude.{ℕ, ◌≤◌, ◌<◌, Bool, true, false, ◌≡◌}
+use Rattle.std.specs.Prelude.{ℕ, ◌+◌, ◌*◌, ◌^◌, ◌≤◌, ◌<◌, Bool, true, false, List, length, ◌≡◌}
 use Rattle.rules.specs.Words.{Answer, value, refused}
 use Rattle.rules.specs.Record.{Index}
+use Rattle.rules.specs.Push.{delta_at}
 use Rattle.rules.specs.Reading.{read_in, get_rule}
 
 -- an answer that is a value
@@ -22,3 +23,7 @@ pub record Sure (x : Index) (k p until r : ℕ) : Type 0 where
   pub from : p ≤ r
   pub to : r ≤ until
   pub reads : ValuesIn x k p r
+
+-- the bytes have n deltas of w bytes, and each makes a sum with the base that fits 64 bits
+abbrev pub Run : List ℕ → (base w n : ℕ) → Type 0
+Run bytes base w n = (i : ℕ) → i < n → (i * w + w ≤ length bytes) × (base + delta_at bytes (i * w) w < 2 ^ 64)

@@ -1,10 +1,10 @@
 // Whether each position of a range gives a value.
 #![tactic(auto)]
 
-ghost use Rattle.std.specs.Prelude.{◌≡◌, ◌-◌, ◌≤◌, ◌<◌, get_or, take};
+ghost use Rattle.std.specs.Prelude.{◌≡◌, true, ◌-◌, ◌≤◌, ◌<◌, get_or, take};
 ghost use Rattle.rules.specs.Reading.{reads};
 ghost use Rattle.rules.specs.Refusals.{index_of};
-ghost use Rattle.range_reads.specs.Values.{is_value, Sure};
+ghost use Rattle.range_reads.specs.Values.{is_value, Sure, Run};
 
 use range_find::Finder;
 use rules::Width;
@@ -59,13 +59,20 @@ fn sure_until(x: Counted<'_>, k: u64, p: u64, until: u64) -> u64
         return p;
     };
     let width = w as u64;
-    if index.state.minimum <= width
-        && width <= 8
-        && offset <= used
-        && until - start - 1 <= (used - offset) / width
-        && delta::all_fit(base, width)
-    {
-        return until;
+    if index.state.minimum <= width && width <= 8 && offset <= used {
+        let bytes = &index.bytes[offset as usize..used as usize];
+        if run_sure(bytes, base, width, until - start - 1) {
+            return until;
+        }
     }
     p
+}
+
+// Whether the bytes have n deltas of this width, and each makes a sum with the base that fits, whatever it is.
+fn run_sure(bytes: &[u8], base: u64, width: u64, n: u64) -> bool
+    requires some { 1 ≤ width }
+    requires most { width ≤ 8 }
+    ensures { result ≡ true → Run bytes.now base width n }
+{
+    n <= bytes.len() as u64 / width && delta::all_fit(base, width)
 }

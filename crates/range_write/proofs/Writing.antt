@@ -1,24 +1,25 @@
 -- Putting values: runs of puts one after another, a segment's base and deltas as its reads, and the segments as the range.
 use Prim.Native.Nat.{ℕ, zero, suc, ◌+◌, ◌-◌, ◌*◌, ◌^◌, ◌≤◌, ◌<◌}
 use mathlib.Core.Bool.{true, false}
-use mathlib.Core.List.{List}
+use mathlib.Core.List.{List, ◌++◌}
 use mathlib.Core.Path.{◌≡◌, refl, sym, ap, ◌∙◌}
 use native.Mathlib.Omega.{arith}
 use native.Mathlib.Nat.{suc-mul, add-mul}
 use native.Mathlib.Numerals.{add-one}
 use lib.Dec.{ltb, eqb}
-use lib.ListN.{length, set, length-set}
+use borrow.Rule.Slice.PartMut.{put_mid, mid_of, post_of}
+use Rattle.std.specs.List.{between}
+use Rattle.std.proofs.lemmas.List.{take-append-drop, length-take-le, length-drop, set-append_left, set-append_right}
+use Rattle.std.proofs.lemmas.List.Edits.{length-between}
+use lib.ListN.{length, take, drop, set, length-set}
 use borrow.Author.Tests.{eqb-true, eqb-false, le-ltb, ne_eqb}
-use Rattle.rules.specs.Words.{Facts}
-use Rattle.rules.specs.Record.{Index, minimum_of, length_of, segments_of, widths_of, used_of, start, base, offset, width}
+use Rattle.rules.specs.Record.{Index, minimum_of, widths_of, used_of, start, base, offset, width}
 use Rattle.rules.specs.Push.{delta_at}
-use Rattle.rules.specs.Reading.{delta_read, read_in, get_rule}
-use Rattle.laws.specs.Orders.{orders_of}
+use Rattle.rules.specs.Reading.{delta_read, read_in}
 use Rattle.laws.proofs.Tests.{by_test, false_not_true, when_all_case}
-use Rattle.index_stream.specs.Searches.{Stays}
-use Rattle.range_reads.specs.Values.{is_value, ValuesIn}
-use Rattle.range_reads.proofs.Deciding.{get_here}
-use Rattle.range_write.specs.Puts.{value_of, sums, Fits, in_segment, gets, puts, Based}
+use Rattle.range_reads.specs.Values.{is_value, ValuesIn, Run}
+use Rattle.range_reads.proofs.Deciding.{delta_between}
+use Rattle.range_write.specs.Puts.{value_of, sums, in_segment, puts, Based}
 
 -- nothing put
 pub puts_none : (f : ℕ → ℕ) (from : ℕ) (out : List ℕ) → out ≡ puts f from 0 out
@@ -26,9 +27,9 @@ unfolding puts
 puts_none f from out = refl
 
 -- one more put
-pub puts_more : (f : ℕ → ℕ) (from n : ℕ) (out : List ℕ) → set (puts f from n out) (from + n) (f n) ≡ puts f from (n + 1) out
+pub puts_more : (f : ℕ → ℕ) (from n i : ℕ) (out : List ℕ) → i ≡ from + n → set (puts f from n out) i (f n) ≡ puts f from (n + 1) out
 unfolding puts
-puts_more f from n out = rw (add-one n)
+puts_more f from n i out e = rw (add-one n, e)
 
 -- puts keep the length
 pub puts_length : (f : ℕ → ℕ) (from n : ℕ) (out : List ℕ) → length (puts f from n out) ≡ length out
@@ -45,29 +46,40 @@ puts_join f g from k (suc n) out h =
     let e2 : from + k + n ≡ from + (k + n) = omega arith in
     rw (e, puts, puts_join f g from k n out (λ j l. h j (omega arith)), h n (omega arith), e2)
 
--- two runs that meet at position q make one from p to `until`
-puts_meet : (f g : ℕ → ℕ) (from p q until : ℕ) (out : List ℕ) → p ≤ q → q ≤ until → ((j : ℕ) → j < until - q → g j ≡ f ((q - p) + j))
-    → puts g (from + (q - p)) (until - q) (puts f from (q - p) out) ≡ puts f from (until - p) out
-puts_meet f g from p q until out h l same =
-    let e : (q - p) + (until - q) ≡ until - p = omega arith in
-    puts_join f g from (q - p) (until - q) out same ∙ ap (λ (n : ℕ). puts f from n out) e
+-- the k entries from entry d on
+pub part_length : (d k : ℕ) (out : List ℕ) → d + k ≤ length out → length (mid_of d k out) ≡ k
+part_length d k out h = length-take-le k (drop d out) (omega (arith, length-drop d out))
+
+-- puts into the k entries from entry d on, as lent
+puts_within : (f : ℕ → ℕ) (d k m : ℕ) (out : List ℕ) → d + k ≤ length out → m ≤ k → put_mid d k out (puts f 0 m (mid_of d k out)) ≡ puts f d m out
+unfolding puts
+puts_within f d k zero out h l = ap (λ (ys : List ℕ). take d out ++ ys) (take-append-drop k (drop d out)) ∙ take-append-drop d out
+puts_within f d k (suc m) out h l =
+    let ys = puts f 0 m (mid_of d k out) in
+    let long : length ys ≡ k = puts_length f 0 m (mid_of d k out) ∙ part_length d k out h in
+    let e : d + m - d ≡ 0 + m = omega arith in
+    sym (ap (λ (o : List ℕ). set o (d + m) (f m)) (sym (puts_within f d k m out h (omega arith)))
+    ∙ set-append_right (take d out) (ys ++ post_of d k out) d (d + m) (f m) (length-take-le d out (omega arith)) (omega arith)
+    ∙ ap (λ (zs : List ℕ). take d out ++ zs) (rw e (set-append_left ys (post_of d k out) (0 + m) (f m) (omega arith))))
+
+-- after puts that reach up to those k entries, puts that fill them make one run
+pub puts_part : (f g : ℕ → ℕ) (d k n : ℕ) (out now left : List ℕ) → d + k ≤ length out → n ≡ d + k → ((j : ℕ) → j < k → g j ≡ f (d + j))
+    → now ≡ puts f 0 d out → left ≡ puts g 0 (length (mid_of d k now)) (mid_of d k now) → put_mid d k now left ≡ puts f 0 n out
+puts_part f g d k n out now left h e same e1 e2 =
+    let long : length now ≡ length out = ap length e1 ∙ puts_length f 0 d out in
+    let part = part_length d k now (omega arith) in
+    let z : d ≡ 0 + d = omega arith in
+    ap (put_mid d k now) (e2 ∙ ap (λ (m : ℕ). puts g 0 m (mid_of d k now)) part)
+    ∙ puts_within g d k k now (omega arith) (omega arith) ∙ ap (puts g d k) e1 ∙ ap (λ (i : ℕ). puts g i k (puts f 0 d out)) z ∙ puts_join f g 0 d k out same
+    ∙ ap (λ (m : ℕ). puts f 0 m out) (sym e)
 
 -- the place of the next delta
-pub next_delta : (at i w : ℕ) → at + i * w + w ≡ at + (i + 1) * w
-next_delta at i w = rw (add-one i, suc-mul i w) (omega arith)
+pub next_place : (i w : ℕ) → i * w + w ≡ (i + 1) * w
+next_place i w = rw (add-one i, suc-mul i w)
 
 -- delta j after that of position q is that of position q + j
 delta_place : (o s q j w : ℕ) → s < q → o + (q - s - 1) * w + j * w ≡ o + (q + j - s - 1) * w
 delta_place o s q j w h = let b : q + j - s - 1 ≡ (q - s - 1) + j = omega arith in rw (b, add-mul (q - s - 1) j w) (omega arith)
-
--- the deltas from q to `until` end where that of the last position ends
-deltas_end : (o s q until w : ℕ) → s < q → q < until → o + (q - s - 1) * w + (until - q) * w ≡ o + (until - 1 - s - 1) * w + w
-deltas_end o s q until w h l =
-    let j = until - q - 1 in
-    let e : until - q ≡ suc j = omega arith in
-    let f : q + j ≡ until - 1 = omega arith in
-    let g = delta_place o s q j w h in
-    rw (e, suc-mul j w, ← f) (omega arith)
 
 -- what a delta's read that gives a value says
 delta_of : (m used : ℕ) (bytes : List ℕ) (base offset i w : ℕ) → is_value (delta_read m used bytes base offset i w) ≡ true
@@ -106,43 +118,52 @@ module _ (x : Index) (k : ℕ) where
       record { has = t; least = d.0; most = d.1; ends = d.2; fits = d.3; is = rw (l, n, t, read_in) d.4 })
       (λ t. false_not_true false (rw (l, n, t, read_in) at e) refl)
 
-  -- the deltas from position q to `until`, w bytes each: they are there, fit, and are the reads
-  pub record RunOf (w q until : ℕ) : Type 0 where
+  -- the n deltas of w bytes from position q on: their bytes are there, their sums fit, and they are the reads
+  pub record RunOf (w q n : ℕ) : Type 0 where
     pub has : ltb k (widths_of x) ≡ true
     pub least : minimum_of x ≤ w
     pub most : w ≤ 8
-    pub room : place q w + (until - q) * w ≤ used_of x
-    pub fits : Fits x.bytes (base x k) (place q w) w (until - q)
-    pub same : (j : ℕ) → j < until - q → sums x.bytes (base x k) (place q w) w j ≡ value_of (read_in x k (q + j))
+    pub from : place q w ≤ used_of x
+    pub run : Run (between (place q w) (used_of x) x.bytes) (base x k) w n
+    pub same : (j : ℕ) → j < n → sums (between (place q w) (used_of x) x.bytes) (base x k) w j ≡ value_of (read_in x k (q + j))
 
   -- reads that are all values are such deltas
-  pub run_of : (w p q until : ℕ) → width x k ≡ w → ValuesIn x k p until → p ≤ q → start x k < q → q < until → RunOf w q until
-  run_of w p q until c run h l u =
-      let d = read_delta q l (run q h u) in
-      let z = read_delta (until - 1) (omega arith) (run (until - 1) (omega arith) (omega arith)) in
-      let e = deltas_end (offset x k) (start x k) q until (width x k) l u in
-      let moved : (j : ℕ) → place q (width x k) + j * width x k ≡ place (q + j) (width x k) =
-      λ j. delta_place (offset x k) (start x k) q j (width x k) l in
+  pub run_of : (w q n : ℕ) → width x k ≡ w → used_of x ≤ length x.bytes → ValuesIn x k q (q + n) → start x k < q → 0 < n → RunOf w q n
+  run_of w q n c room good l some =
+      let w = width x k in
+      let d : (j : ℕ) → j < n → DeltaOf (q + j) = λ j i. read_delta (q + j) (omega arith) (good (q + j) (omega arith) (omega arith)) in
+      let moved = λ (j : ℕ). delta_place (offset x k) (start x k) q j w l in
+      let ends : (j : ℕ) → j < n → place q w + j * w + w ≤ used_of x = λ j i. rw (moved j) (d j i).ends in
+      let long = length-between x.bytes (place q w) (used_of x) room in
+      let at : (j : ℕ) → j < n → delta_at (between (place q w) (used_of x) x.bytes) (j * w) w ≡ delta_at x.bytes (place (q + j) w) w =
+      λ j i. delta_between x.bytes (place q w) (used_of x) (j * w) w (ends j i) ∙ ap (λ (o : ℕ). delta_at x.bytes o w) (moved j) in
       rw (← c) (record {
-        has = d.has;
-        least = d.least;
-        most = d.most;
-        room = rw e z.ends;
-        fits = λ j i. rw (moved j) (read_delta (q + j) (omega arith) (run (q + j) (omega arith) (omega arith))).fits;
-        same = λ j i. rw (moved j) (sym (read_delta (q + j) (omega arith) (run (q + j) (omega arith) (omega arith))).is);
+        has = (d 0 some).has;
+        least = (d 0 some).least;
+        most = (d 0 some).most;
+        from = omega (arith, ends 0 some);
+        run = λ j i. (omega (arith, ends j i), omega (arith, at j i, (d j i).fits));
+        same = λ j i. ap (λ (v : ℕ). base x k + v) (at j i) ∙ sym (d j i).is;
       })
 
   -- the next position after the base is put
-  pub based_next : (p i r : ℕ) (out left : List ℕ) → Based (start x k) (base x k) p i r out left → start x k ≤ p → (p ≤ r) × (r ≤ p + 1) × (start x k < r)
-  based_next p i r out left b h =
+  pub based_next : (p r : ℕ) (out left : List ℕ) → Based (start x k) (base x k) p r out left → start x k ≤ p → (p ≤ r) × (r ≤ p + 1) × (start x k < r)
+  based_next p r out left b h =
       by_test (eqb p (start x k))
       (λ t. let e = eqb-true p (start x k) t in let n : r ≡ p + 1 = b.next ∙ rw t in omega arith)
       (λ t. let e = eqb-false p (start x k) t in let n : r ≡ p = b.next ∙ rw t in omega arith)
 
+  -- after the base, where entries are left: they are for the deltas from the next position on
+  pub rest_of : (w p r m : ℕ) (out left : List ℕ) → Based (start x k) (base x k) p r out left → start x k ≤ p → width x k ≡ w → used_of x ≤ length x.bytes
+      → ValuesIn x k p (p + m) → r - p < m → (p ≤ r) × RunOf w r (m - (r - p))
+  rest_of w p r m out left b h c room good some =
+      let n = based_next p r out left b h in
+      (n.0, run_of w r (m - (r - p)) c room (λ q l u. good q (omega arith) (omega arith)) n.2 (omega arith))
+
   -- the base put is the read at its position
-  pub based_puts : (p i r : ℕ) (out left : List ℕ) → Based (start x k) (base x k) p i r out left → left ≡ puts (in_segment x k p) i (r - p) out
+  pub based_puts : (p r : ℕ) (out left : List ℕ) → Based (start x k) (base x k) p r out left → left ≡ puts (in_segment x k p) 0 (r - p) out
   unfolding puts read_in
-  based_puts p i r out left b =
+  based_puts p r out left b =
       by_test (eqb p (start x k))
       (λ t.
       let e = eqb-true p (start x k) t in
@@ -150,27 +171,8 @@ module _ (x : Index) (k : ℕ) where
       let m : r - p ≡ 1 = omega arith in
       let z : p + 0 ≡ p = omega arith in
       let v : value_of (read_in x k (p + 0)) ≡ base x k = rw (z, le-ltb p (start x k) (omega arith), t, read_in) in
-      let y : i + 0 ≡ i = omega arith in
-      b.put ∙ rw (t, m, puts, v, y))
+      b.put ∙ rw (t, m, puts, v))
       (λ t.
       let n : r ≡ p = b.next ∙ rw t in
       let m : r - p ≡ 0 = omega arith in
       b.put ∙ rw (t, m, puts))
-
-  -- the base, and then the deltas
-  pub segment_puts : (p q until i : ℕ) (out : List ℕ) → p ≤ q → q ≤ until → (f : ℕ → ℕ) → ((j : ℕ) → j < until - q → f j ≡ value_of (read_in x k (q + j)))
-      → puts f (i + (q - p)) (until - q) (puts (in_segment x k p) i (q - p) out) ≡ puts (in_segment x k p) i (until - p) out
-  segment_puts p q until i out h l f same =
-      puts_meet (in_segment x k p) f i p q until out h l
-      (λ j g. let b : q + j ≡ p + ((q - p) + j) = omega arith in same j g ∙ ap (λ (n : ℕ). value_of (read_in x k n)) b)
-
--- a range's values up to p, and those of the segment that the search found
-pub range_puts : (x : Index) (number p until : ℕ) → Facts (orders_of x) → until ≤ length_of x → (number ≡ 0 → ⊥)
-    → Stays x.starts (segments_of x) p number until → (a : ℕ) (out : List ℕ) → a ≤ p → p ≤ until
-    → puts (in_segment x (number - 1) p) (p - a) (until - p) (puts (gets x a) 0 (p - a) out) ≡ puts (gets x a) 0 (until - a) out
-range_puts x number p until ok long some stays a out h l =
-    let z : p - a ≡ 0 + (p - a) = omega arith in
-    ap (λ (i : ℕ). puts (in_segment x (number - 1) p) i (until - p) (puts (gets x a) 0 (p - a) out)) z
-    ∙ puts_meet (gets x a) (in_segment x (number - 1) p) 0 a p until out h l
-    (λ j g. let b : p + j ≡ a + ((p - a) + j) = omega arith in
-    ap value_of (sym (get_here x number p until ok long some stays (p + j) (omega arith) (omega arith))) ∙ ap (λ (n : ℕ). value_of (get_rule x n)) b)

@@ -1,5 +1,5 @@
 -- The values of a range, and how they go into the output one after another.
-use Rattle.std.specs.Prelude.{ℕ, zero, suc, ◌+◌, ◌*◌, ◌^◌, ◌<◌, List, ◌≡◌, eqb, set}
+use Rattle.std.specs.Prelude.{ℕ, zero, suc, ◌+◌, ◌*◌, List, ◌≡◌, eqb, set}
 use Rattle.rules.specs.Words.{when, Answer, value, refused}
 use Rattle.rules.specs.Record.{Index}
 use Rattle.rules.specs.Push.{delta_at}
@@ -10,13 +10,9 @@ abbrev pub value_of : Answer ℕ → ℕ
 value_of (value v) = v
 value_of (refused e) = 0
 
--- the deltas of w bytes from `at` on, each added to the base
-abbrev pub sums : List ℕ → (base at w : ℕ) → ℕ → ℕ
-sums bytes base at w i = base + delta_at bytes (at + i * w) w
-
--- the first n sums fit 64 bits
-abbrev pub Fits : List ℕ → (base at w n : ℕ) → Type 0
-Fits bytes base at w n = (i : ℕ) → i < n → sums bytes base at w i < 2 ^ 64
+-- the deltas of w bytes, each added to the base
+abbrev pub sums : List ℕ → (base w : ℕ) → ℕ → ℕ
+sums bytes base w i = base + delta_at bytes (i * w) w
 
 -- the values from position p on, read in segment k
 abbrev pub in_segment : Index → ℕ → ℕ → ℕ → ℕ
@@ -31,7 +27,7 @@ unfoldable pub puts : (ℕ → ℕ) → (from n : ℕ) → List ℕ → List ℕ
 puts f from zero out = out
 puts f from (suc n) out = set (puts f from n out) (from + n) (f n)
 
--- the base is put into entry i where p is its position; r is the next position to fill
-pub record Based (start base p i r : ℕ) (out left : List ℕ) : Type 0 where
+-- the base is put into the first entry where p is its position; r is the next position to fill
+pub record Based (start base p r : ℕ) (out left : List ℕ) : Type 0 where
   pub next : r ≡ when (eqb p start) (p + 1) p
-  pub put : left ≡ when (eqb p start) (set out i base) out
+  pub put : left ≡ when (eqb p start) (set out 0 base) out

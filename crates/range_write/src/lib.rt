@@ -1,119 +1,99 @@
 // Puts the values of a range, each of which the tables give, into the output.
 #![tactic(auto)]
 
-ghost use Rattle.std.specs.Prelude.{◌≡◌, true, ◌+◌, ◌-◌, ◌*◌, ◌≤◌, ◌<◌, length, get_or};
-ghost use Rattle.rules.specs.Words.{Facts};
-ghost use Rattle.rules.specs.Record.{index};
+ghost use Rattle.std.specs.Prelude.{◌≡◌, true, ◌+◌, ◌-◌, ◌≤◌, ◌<◌, ◌^◌, length, get_or, take};
 ghost use Rattle.rules.specs.Reading.{reads};
-ghost use Rattle.laws.specs.Orders.{orders_of};
-ghost use Rattle.range_find.specs.Starts.{Rises, Known};
-ghost use Rattle.range_reads.specs.Values.{is_value, ValuesIn};
-ghost use Rattle.range_write.specs.Puts.{sums, Fits, in_segment, gets, puts, Based};
+ghost use Rattle.rules.specs.Refusals.{index_of};
+ghost use Rattle.range_reads.specs.Values.{is_value, ValuesIn, Run};
+ghost use Rattle.range_write.specs.Puts.{sums, in_segment, gets, puts, Based};
 
-use range_find::Ahead;
-use rules::{State, Width};
+use range_find::Finder;
+use rules::Width;
+use tables::Counted;
 
-// Puts the values at a..b, each of which the tables give, into the output from its first entry on.
-pub fn range_write(
-    s: State,
-    starts: &[u64],
-    bases: &[u64],
-    offsets: &[u64],
-    widths: &[u8],
-    bytes: &[u8],
-    rising: bool,
-    known: Ahead,
-    a: u64,
-    b: u64,
-    out: &mut [u64],
-)
-    requires { Facts (orders_of (index s starts.now bases.now offsets.now widths.now bytes.now)) × (rising ≡ true → Rises starts.now s.segments) × (a ≤ b) × (b ≤ s.length) × (b - a ≤ length out.old) × (is_value (reads (index s starts.now bases.now offsets.now widths.now bytes.now) a (b - a)) ≡ true) × Known starts.now s.segments b known }
-    ensures { out.new ≡ puts (gets (index s starts.now bases.now offsets.now widths.now bytes.now) a) 0 (b - a) out.old }
+// Puts the values from a up to the finder's limit, each of which the tables give, into the output from its first entry on.
+pub fn range_write(x: Counted<'_>, finder: &Finder<'_>, a: u64, out: &mut [u64])
+    requires in_use { finder.now.starts.now ≡ take x.index.now.state.segments x.index.now.starts.now }
+    requires ordered { a ≤ finder.now.limit }
+    requires within { finder.now.limit ≤ x.index.now.state.length }
+    requires room { finder.now.limit - a ≤ length out.old }
+    requires values { is_value (reads (index_of x.index.now) a (finder.now.limit - a)) ≡ true }
+    ensures { out.new ≡ puts (gets (index_of x.entry.index.now) a) 0 (finder.now.limit - a) out.old }
 {
-    let segments = s.segments;
     let mut p = a;
     let mut number: u64 = 0;
     'segments: loop {
-        if b <= p {
+        if finder.limit <= p {
             break 'segments;
         }
-        let found = range_find::find(starts, segments, rising, known, number, p, b);
+        let found = finder.find(number, p);
         number = found.number;
         let until = found.until;
         fill_segment(
-            s,
-            starts,
-            bases,
-            offsets,
-            widths,
-            bytes,
+            x,
             number - 1,
             p,
-            until,
-            out,
-            p - a,
+            &mut out[(p - a) as usize..(until - a) as usize],
         );
         p = until;
     }
 }
 
-// Puts the values at p..until, all of segment k, into the output from entry `from` on.
-fn fill_segment(
-    s: State,
-    starts: &[u64],
-    bases: &[u64],
-    offsets: &[u64],
-    widths: &[u8],
-    bytes: &[u8],
-    k: u64,
-    p: u64,
-    until: u64,
-    out: &mut [u64],
-    from: u64,
-)
-    requires { Facts (orders_of (index s starts.now bases.now offsets.now widths.now bytes.now)) × (k < s.segments) × (get_or starts.now k 0 ≤ p) × (p < until) × (from + (until - p) ≤ length out.old) × ValuesIn (index s starts.now bases.now offsets.now widths.now bytes.now) k p until }
-    ensures { out.new ≡ puts (in_segment (index s starts.now bases.now offsets.now widths.now bytes.now) k p) from (until - p) out.old }
+// Fills the output with the values from p on, all of segment k.
+fn fill_segment(x: Counted<'_>, k: u64, p: u64, out: &mut [u64])
+    requires segment { k < x.index.now.state.segments }
+    requires after { get_or x.index.now.starts.now k 0 ≤ p }
+    requires some { 0 < length out.old }
+    requires fits { p + length out.old < 2 ^ 64 }
+    requires values { ValuesIn (index_of x.index.now) k p (p + length out.old) }
+    ensures { out.new ≡ puts (in_segment (index_of x.entry.index.now) k p) 0 (length out.old) out.old }
 {
-    let start = starts[k as usize];
-    let base = bases[k as usize];
-    let offset = offsets[k as usize];
-    let q = put_base(start, base, p, out, from);
-    if until <= q {
+    let index = x.index;
+    let start = index.starts[k as usize];
+    let base = index.bases[k as usize];
+    let offset = index.offsets[k as usize];
+    let q = put_base(start, base, p, out);
+    let filled = (q - p) as usize;
+    if out.len() <= filled {
         return;
     }
-    let Width::Of(w) = tables::width_of(s, widths, k) else {
+    let Width::Of(w) = tables::width_of(index, k) else {
         return;
     };
     let width = w as u64;
     let at = offset + (q - start - 1) * width;
-    fill_deltas(bytes, base, at, width, until - q, out, from + (q - p));
+    let bytes = &index.bytes[at as usize..index.state.used as usize];
+    fill_deltas(bytes, base, width, &mut out[filled..]);
 }
 
-// Puts the base into entry i where p is its position, and answers the next position to fill.
-fn put_base(start: u64, base: u64, p: u64, out: &mut [u64], i: u64) -> u64
-    requires { (i < length out.old) × (p + 1 < 18446744073709551616) }
-    ensures { Based start base p i result out.old out.new }
+// Puts the base into the first entry where p is its position, and answers the next position to fill.
+fn put_base(start: u64, base: u64, p: u64, out: &mut [u64]) -> u64
+    requires some { 0 < length out.old }
+    requires fits { p + 1 < 2 ^ 64 }
+    ensures { Based start base p result out.old out.new }
 {
     if p == start {
-        out[i as usize] = base;
+        out[0] = base;
         return p + 1;
     }
     p
 }
 
-// Puts the base plus each of the n deltas from `at` on into the output from entry `from` on.
-fn fill_deltas(bytes: &[u8], base: u64, at: u64, width: u64, n: u64, out: &mut [u64], from: u64)
-    requires { (1 ≤ width) × (width ≤ 8) × (at + n * width ≤ length bytes.now) × (from + n ≤ length out.old) × Fits bytes.now base at width n }
-    ensures { out.new ≡ puts (sums bytes.now base at width) from n out.old }
+// Fills the output with the base plus each of the bytes' first deltas.
+fn fill_deltas(bytes: &[u8], base: u64, width: u64, out: &mut [u64])
+    requires some { 1 ≤ width }
+    requires most { width ≤ 8 }
+    requires run { Run bytes.now base width (length out.old) }
+    ensures { out.new ≡ puts (sums bytes.now base width) 0 (length out.old) out.old }
 {
-    let mut i: u64 = 0;
-    let mut here = at;
+    let mut i = 0;
+    let mut at: u64 = 0;
     'deltas: loop {
-        if n <= i {
+        if out.len() <= i {
             break 'deltas;
         }
-        out[(from + i) as usize] = base + delta::delta_at(bytes, here, width);
-        here += width;
+        out[i] = base + delta::delta_at(bytes, at, width);
+        at += width;
         i += 1;
     }
 }

@@ -1,12 +1,16 @@
 -- The invariant: the first i sums are put, and the next delta starts i widths after the first.
-use Prim.Native.Nat.{◌+◌, ◌-◌, ◌*◌, ◌≤◌}
+use Prim.Native.Nat.{◌-◌, ◌*◌, ◌≤◌}
 use mathlib.Core.Path.{◌≡◌}
 use lib.ListN.{length}
 use Rattle.range_write.specs.Puts.{puts, sums}
 use Rattle.range_write.proofs.fill_deltas.Given as goal
 
 abbrev pub invariant-deltas : goal.invariant-deltas
-invariant-deltas l = (l.i ≤ l.n) × (l.here ≡ l.at + l.i * l.width) × (l.out ≡ puts (sums l.bytes l.base l.at l.width) l.from l.i l.initial.out) × (length l.out ≡ length l.initial.out)
+invariant-deltas l = record {
+  within : l.i ≤ length l.out;
+  place : l.at ≡ l.i * l.width;
+  put : l.out ≡ puts (sums l.bytes l.base l.width) 0 l.i l.initial.out;
+}
 
 abbrev pub decreases-deltas : goal.decreases-deltas
-decreases-deltas l = l.n - l.i
+decreases-deltas l = length l.initial.out - l.i

@@ -1,64 +1,69 @@
 -- The base first, where it is due; then the deltas, whose reads are all values: so they are there, fit, and are what the reads say.
-use Prim.Native.Nat.{ℕ, ◌-◌, ◌≤◌}
+use Prim.Native.Nat.{ℕ, ◌+◌, ◌-◌, ◌≤◌}
 use mathlib.Core.Path.{◌≡◌, refl, sym, ap, ◌∙◌}
 use native.Mathlib.Omega.{arith}
-use Rattle.rules.specs.Record.{index}
+use lib.ListN.{length}
+use Rattle.rules.specs.Refusals.{index_of}
+use Rattle.rules.specs.Reading.{read_in}
 use Rattle.laws.proofs.Tests.{false_not_true}
 use Rattle.laws.proofs.Answers.{width_there, width_absent}
-use Rattle.range_write.specs.Puts.{in_segment, puts}
-use Rattle.range_write.proofs.Writing.{run_of, based_next, based_puts, segment_puts}
+use Rattle.range_write.specs.Puts.{value_of, in_segment, puts}
+use Rattle.range_write.proofs.Writing.{RunOf, based_next, based_puts, rest_of, part_length, puts_part}
 use Rattle.range_write.proofs.fill_segment.Goals as goal
+use Rattle.range_write.proofs.fill_segment.Goals.{In-Of}
 
-pub returns-then-until-q : goal.returns-then-until-q
-returns-then-until-q c =
+-- the deltas to put
+deltas : (c : In-Of) → let q = c.put_base-q.result in (c.args.p ≤ q) × RunOf (index_of c.args.x.index.now) c.args.k c.in-Of.w q (length c.args.out.now - (q - c.args.p))
+deltas c =
     let a = c.args in
-    let x = index a.s a.starts.now a.bases.now a.offsets.now a.widths.now a.bytes.now in
-    let n = based_next x a.k a.p a.from _ _ _ c.put_base-q.ensures c.requires.2 in
-    let e : c.put_base-q.result - a.p ≡ a.until - a.p = omega (arith, n, c.if-until-q.true) in
-    based_puts x a.k a.p a.from _ _ _ c.put_base-q.ensures ∙ ap (λ (m : ℕ). puts (in_segment x a.k a.p) a.from m a.out.now) e
+    rest_of (index_of a.x.index.now) a.k _ a.p _ _ _ _ c.put_base-q.ensures c.requires.after (width_there a.x.index.now.state _ _ _ (sym c.in-Of.ensures)).1
+    (omega (arith, a.x.counts)) c.requires.values (omega arith)
+
+pub returns-then-out-filled : goal.returns-then-out-filled
+returns-then-out-filled c =
+    let a = c.args in
+    let x = index_of a.x.index.now in
+    let n = based_next x a.k a.p _ _ _ c.put_base-q.ensures c.requires.after in
+    let e : c.put_base-q.result - a.p ≡ length a.out.now = omega arith in
+    based_puts x a.k a.p _ _ _ c.put_base-q.ensures ∙ ap (λ (m : ℕ). puts (in_segment x a.k a.p) 0 m a.out.now) e
 
 pub returns-in_default : goal.returns-in_default
 returns-in_default c =
     let a = c.args in
-    let x = index a.s a.starts.now a.bases.now a.offsets.now a.widths.now a.bytes.now in
-    let n = based_next x a.k a.p a.from _ _ _ c.put_base-q.ensures c.requires.2 in
-    let r = run_of x a.k _ a.p _ a.until refl c.requires.5 n.0 n.2 c.if-until-q.false in
-    false_not_true _ r.has (width_absent a.s a.widths.now a.k (sym c.in_default.ensures))
+    let r = rest_of (index_of a.x.index.now) a.k _ a.p _ (length a.out.now) _ _ c.put_base-q.ensures c.requires.after refl (omega (arith, a.x.counts)) c.requires.values (omega arith) in
+    false_not_true _ r.1.has (width_absent a.x.index.now.state a.x.index.now.widths.now _ (sym c.in_default.ensures))
 
 pub overflow_mul-at : goal.overflow_mul-at
-overflow_mul-at c =
-    let a = c.args in
-    let x = index a.s a.starts.now a.bases.now a.offsets.now a.widths.now a.bytes.now in
-    let n = based_next x a.k a.p a.from _ _ _ c.put_base-q.ensures c.requires.2 in
-    let r = run_of x a.k _ a.p _ a.until (width_there a.s a.widths.now a.k _ (sym c.in-Of.ensures)).1 c.requires.5 n.0 n.2 c.if-until-q.false in
-    let m = r.room in
-    omega (arith, m, c.requires.0)
+overflow_mul-at c = let from = (deltas c).1.from in omega (arith, c.args.x.counts)
 
 pub overflow_add-at : goal.overflow_add-at
-overflow_add-at c =
-    let a = c.args in
-    let x = index a.s a.starts.now a.bases.now a.offsets.now a.widths.now a.bytes.now in
-    let n = based_next x a.k a.p a.from _ _ _ c.put_base-q.ensures c.requires.2 in
-    let r = run_of x a.k _ a.p _ a.until (width_there a.s a.widths.now a.k _ (sym c.in-Of.ensures)).1 c.requires.5 n.0 n.2 c.if-until-q.false in
-    let m = r.room in
-    omega (arith, m, c.requires.0)
+overflow_add-at c = let from = (deltas (goal.at.overflow_add-at c).In-Of).1.from in omega (arith, c.args.x.counts)
 
-pub fill_deltas-requires : goal.fill_deltas-requires
-fill_deltas-requires c =
-    let a = c.args in
-    let x = index a.s a.starts.now a.bases.now a.offsets.now a.widths.now a.bytes.now in
-    let n = based_next x a.k a.p a.from _ _ _ c.put_base-q.ensures c.requires.2 in
-    let r = run_of x a.k _ a.p _ a.until (width_there a.s a.widths.now a.k _ (sym c.in-Of.ensures)).1 c.requires.5 n.0 n.2 c.if-until-q.false in
-    let u = c.requires.0 in
-    let m = r.room in
-    (omega (arith, r.least, u), r.most, omega (arith, m, u), omega arith, r.fits)
+pub slice_bounds-bytes-count : goal.slice_bounds-bytes-count
+slice_bounds-bytes-count c = (deltas (goal.at.slice_bounds-bytes-count c).In-Of).1.from
+
+pub slice_bounds-bytes-start : goal.slice_bounds-bytes-start
+slice_bounds-bytes-start c = (deltas (goal.at.slice_bounds-bytes-start c).In-Of).1.from
+
+pub fill_deltas-requires-clause-some : goal.fill_deltas-requires-clause-some
+fill_deltas-requires-clause-some c = let least = (deltas (goal.at.fill_deltas-requires-clause-some c).In-Of).1.least in omega (arith, c.args.x.counts)
+
+pub fill_deltas-requires-clause-most : goal.fill_deltas-requires-clause-most
+fill_deltas-requires-clause-most c = (deltas (goal.at.fill_deltas-requires-clause-most c).In-Of).1.most
+
+pub fill_deltas-requires-clause-run : goal.fill_deltas-requires-clause-run
+fill_deltas-requires-clause-run c =
+    λ i h.
+    let e = part_length (c.put_base-q.result - c.args.p) (length c.args.out.now - (c.put_base-q.result - c.args.p)) c.put_base-q.new.out (omega arith) in
+    (deltas (goal.at.fill_deltas-requires-clause-run c).In-Of).1.run i (omega arith)
 
 pub returns : goal.returns
 returns c =
     let a = c.args in
-    let x = index a.s a.starts.now a.bases.now a.offsets.now a.widths.now a.bytes.now in
-    let n = based_next x a.k a.p a.from _ _ _ c.put_base-q.ensures c.requires.2 in
-    let r = run_of x a.k _ a.p _ a.until (width_there a.s a.widths.now a.k _ (sym c.in-Of.ensures)).1 c.requires.5 n.0 n.2 c.if-until-q.false in
-    let b = based_puts x a.k a.p a.from _ _ _ c.put_base-q.ensures in
-    let l : c.put_base-q.result ≤ a.until = omega (arith, c.if-until-q.false) in
-    c.fill_deltas.ensures ∙ rw b (segment_puts x a.k a.p c.put_base-q.result a.until a.from a.out.now n.0 l _ r.same)
+    let x = index_of a.x.index.now in
+    let q = c.put_base-q.result in
+    let d = deltas (goal.at.returns c).In-Of in
+    let p = d.0 in
+    puts_part (in_segment x a.k a.p) _ (q - a.p) _ _ a.out.now _ _ (omega arith) (omega arith)
+    (λ j h. let e : q + j ≡ a.p + (q - a.p + j) = omega arith in d.1.same j (omega arith) ∙ ap (λ (n : ℕ). value_of (read_in x a.k n)) e)
+    (based_puts x a.k a.p _ _ _ c.put_base-q.ensures) c.fill_deltas.ensures

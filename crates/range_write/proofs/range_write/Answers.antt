@@ -1,65 +1,66 @@
 -- The values of a..p are put, and nothing else. Every read is a value, so each search finds some segment.
-use Prim.Native.Nat.{ℕ, ◌-◌}
-use mathlib.Core.Path.{◌≡◌, refl, ap, ◌∙◌}
+use Prim.Native.Nat.{ℕ, ◌+◌, ◌-◌, ◌≤◌}
+use mathlib.Core.Path.{◌≡◌, sym, ap, ◌∙◌}
 use native.Mathlib.Omega.{arith}
-use lib.ListN.{length}
-use Rattle.rules.specs.Record.{index}
-use Rattle.range_reads.specs.Values.{Values}
-use Rattle.range_reads.proofs.Deciding.{found_in}
-use Rattle.range_write.specs.Puts.{gets, puts}
-use Rattle.range_write.proofs.Given.{reads_at, found_some, values_in}
-use Rattle.range_write.proofs.Writing.{puts_none, puts_length, range_puts}
+use Rattle.rules.specs.Refusals.{index_of}
+use Rattle.rules.specs.Reading.{get_rule}
+use Rattle.range_reads.specs.Values.{ValuesIn}
+use Rattle.range_reads.proofs.Deciding.{Segment}
+use Rattle.range_write.specs.Puts.{value_of, gets}
+use Rattle.range_write.proofs.Given.{reads_at, given}
+use Rattle.range_write.proofs.Writing.{puts_none, part_length, puts_part}
 use Rattle.range_write.proofs.range_write.Goals as goal
+use Rattle.range_write.proofs.range_write.Goals.{After-find-found}
+
+-- what the search found
+found : (c : After-find-found) → let x = index_of c.args.x.index.now in let r = c.find-found.result in
+    Segment x c.segments.p r.until (r.number - 1) × ValuesIn x (r.number - 1) c.segments.p r.until × (1 ≤ r.number)
+found c =
+    let a = c.args in
+    given (index_of a.x.index.now) a.x.counts _ c.requires.in_use c.segments.p _ _ c.find-found.ensures c.requires.within
+    (λ q l h. reads_at (index_of a.x.index.now) (a.finder.now.limit - a.a) a.a c.requires.values q (omega (arith, c.segments.invariant.from)) (omega arith))
 
 pub segments-init : goal.segments-init
 segments-init c =
     let e : c.args.a - c.args.a ≡ 0 = omega arith in
-    (omega arith, omega arith, rw e (puts_none _ _ _), refl)
+    record { from = omega arith; within = omega arith; put = rw e (puts_none _ _ _) }
 
 pub overflow_sub-number : goal.overflow_sub-number
-overflow_sub-number c =
-    let a = c.args in
-    let x = index a.s a.starts.now a.bases.now a.offsets.now a.widths.now a.bytes.now in
-    let good : Values x a.a a.b = λ q l h. reads_at x (a.b - a.a) a.a c.requires.5 q l (omega arith) in
-    let f = c.find-found.ensures in
-    omega (arith, found_some x _ c.segments.p c.requires.0 (omega arith) (f.stays c.segments.p (omega arith) f.after) (good c.segments.p (omega arith) (omega arith)))
+overflow_sub-number c = (found (goal.at.overflow_sub-number c).After-find-found).2
 
-pub fill_segment-requires : goal.fill_segment-requires
-fill_segment-requires c =
-    let a = c.args in
-    let x = index a.s a.starts.now a.bases.now a.offsets.now a.widths.now a.bytes.now in
-    let good : Values x a.a a.b = λ q l h. reads_at x (a.b - a.a) a.a c.requires.5 q l (omega arith) in
-    let f = c.find-found.ensures in
-    let w = f.within in let v = f.after in
-    let some = found_some x _ c.segments.p c.requires.0 (omega arith) (f.stays c.segments.p (omega arith) f.after) (good c.segments.p (omega arith) (omega arith)) in
-    let s = found_in a.starts.now a.s.segments c.segments.p _ (f.stays c.segments.p (omega arith) f.after) some in
-    let r = c.requires.4 in
-    (c.requires.0, s.0, s.1, v, omega arith, values_in x _ c.segments.p _ c.requires.0 (omega arith) some f.stays (λ q l h. good q (omega arith) (omega arith)))
+pub fill_segment-requires-clause-segment : goal.fill_segment-requires-clause-segment
+fill_segment-requires-clause-segment c = (found (goal.at.fill_segment-requires-clause-segment c).After-find-found).0.there
 
-pub segments-smaller : goal.segments-smaller
-segments-smaller c =
-    let v = c.find-found.ensures.after in
-    omega arith
+pub fill_segment-requires-clause-after : goal.fill_segment-requires-clause-after
+fill_segment-requires-clause-after c = (found (goal.at.fill_segment-requires-clause-after c).After-find-found).0.begins
+
+pub fill_segment-requires-clause-values : goal.fill_segment-requires-clause-values
+fill_segment-requires-clause-values c =
+    λ q l h.
+    let within = c.find-found.ensures.within in
+    let after = c.find-found.ensures.after in
+    let room = c.requires.room in
+    let from = c.segments.invariant.from in
+    let d = c.segments.p - c.args.a in
+    let e = part_length d (c.find-found.result.until - c.args.a - d) c.segments.out (omega arith) in
+    (found (goal.at.fill_segment-requires-clause-values c).After-find-found).1 q l (omega arith)
 
 pub segments-preserved : goal.segments-preserved
 segments-preserved c =
     let a = c.args in
-    let x = index a.s a.starts.now a.bases.now a.offsets.now a.widths.now a.bytes.now in
-    let good : Values x a.a a.b = λ q l h. reads_at x (a.b - a.a) a.a c.requires.5 q l (omega arith) in
+    let x = index_of a.x.index.now in
+    let p = c.segments.p in
     let f = c.find-found.ensures in
-    let w = f.within in let v = f.after in
-    let some = found_some x _ c.segments.p c.requires.0 (omega arith) (f.stays c.segments.p (omega arith) f.after) (good c.segments.p (omega arith) (omega arith)) in
-    let i = c.segments.invariant in
-    let g = c.fill_segment.ensures in (
-      omega arith,
-      w,
-      g ∙ rw i.2 (range_puts x _ c.segments.p _ c.requires.0 (omega arith) some f.stays a.a a.out.now i.0 (omega arith)),
-      ap length g ∙ puts_length _ _ _ _ ∙ i.3,
-    )
-
-pub returns : goal.returns
-returns c =
-    let a = c.args in
-    let x = index a.s a.starts.now a.bases.now a.offsets.now a.widths.now a.bytes.now in
-    let e : c.segments.p ≡ a.b = omega arith in
-    c.segments.invariant.2 ∙ ap (λ (p : ℕ). puts (gets x a.a) 0 (p - a.a) a.out.now) e
+    let within = f.within in
+    let after = f.after in
+    let from = c.segments.invariant.from in
+    let room = c.requires.room in
+    let s = (found (goal.at.segments-preserved c).After-find-found).0 in
+    record {
+      from = omega arith;
+      within = within;
+      put = puts_part (gets x a.a) _ (p - a.a) _ _ a.out.now _ _ (omega arith) (omega arith)
+          (λ j h. let e : p + j ≡ a.a + (p - a.a + j) = omega arith in
+          ap value_of (sym (s.gets (p + j) (omega arith) (omega arith))) ∙ ap (λ (n : ℕ). value_of (get_rule x n)) e)
+          c.segments.invariant.put c.fill_segment.ensures;
+    }
