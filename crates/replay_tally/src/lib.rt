@@ -46,6 +46,7 @@ pub fn start() -> Tally
 }
 
 // Takes the bytes that came of a record: replays its call and counts the answer, or keeps the length of a tail.
+#[tactic(auto, unfolding(crate::specs::Tallying::take_rule))]
 pub fn take(player: &mut Player<'_>, t: Tally, recorded: &[u8]) -> Tally
     ensures left { going_by player.new result ≡ take_rule (going_by player.old t) recorded.now (length recorded.now) }
     ensures lent { SameLent player.new player.old }
@@ -96,6 +97,7 @@ fn word(recorded: &[u8], i: u64) -> u64
 }
 
 // Counts a record: it differs exactly where a number of its answer does.
+#[tactic(auto, unfolding(crate::specs::Tallying::counted, crate::specs::Tallying::one_more, crate::specs::Tallying::same_reply, rules::specs::Words::when_all))]
 fn count(t: Tally, kind: u64, due: Reply, found: Reply) -> Tally
     ensures { result ≡ counted t kind due found }
 {
@@ -124,6 +126,7 @@ fn count(t: Tally, kind: u64, due: Reply, found: Reply) -> Tally
 }
 
 // One more of no known kind, if that was found.
+#[tactic(auto, unfolding(crate::specs::Tallying::unknown_after, crate::specs::Tallying::one_more))]
 fn unknown_after(n: u64, found: Reply) -> u64
     ensures { result ≡ unknown_after n found }
 {
