@@ -18,10 +18,21 @@ pub kind_unknown : (x : Index) (c : Cursor) (out : List ℕ) (k : Call) → ((u 
 unfolding find_rule reply_rule read_rule replay_rule
 kind_unknown x c out k h =
     let n = k.kind in
-    rw (ne_eqb n 1 (λ e. h Open (sym e)), ne_eqb n 2 (λ e. h Push (sym e)), ne_eqb n 3 (λ e. h Length (sym e)), ne_eqb n 4 (λ e. h Size (sym e)),
-    ne_eqb n 5 (λ e. h Get (sym e)), ne_eqb n 6 (λ e. h GetRange (sym e)), ne_eqb n 7 (λ e. h Output (sym e)), ne_eqb n 8 (λ e. h Iter (sym e)),
-    ne_eqb n 9 (λ e. h Step (sym e)), ne_eqb n 10 (λ e. h TargetRange (sym e)), ne_eqb n 11 (λ e. h BisectLeft (sym e)),
-    ne_eqb n 12 (λ e. h BisectRangeLeft (sym e)), ne_eqb n 13 (λ e. h Entry (sym e)))
+    rw (
+      ne_eqb n 1 (λ e. h Open (sym e)),
+      ne_eqb n 2 (λ e. h Push (sym e)),
+      ne_eqb n 3 (λ e. h Length (sym e)),
+      ne_eqb n 4 (λ e. h Size (sym e)),
+      ne_eqb n 5 (λ e. h Get (sym e)),
+      ne_eqb n 6 (λ e. h GetRange (sym e)),
+      ne_eqb n 7 (λ e. h Output (sym e)),
+      ne_eqb n 8 (λ e. h Iter (sym e)),
+      ne_eqb n 9 (λ e. h Step (sym e)),
+      ne_eqb n 10 (λ e. h TargetRange (sym e)),
+      ne_eqb n 11 (λ e. h BisectLeft (sym e)),
+      ne_eqb n 12 (λ e. h BisectRangeLeft (sym e)),
+      ne_eqb n 13 (λ e. h Entry (sym e)),
+    )
 
 -- a call of a kind that changes nothing is what it answers
 pub read_only : (x : Index) (c : Cursor) (out : List ℕ) (k : Call) (u : Kind) → kind_number u ≡ k.kind

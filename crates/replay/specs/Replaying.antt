@@ -5,7 +5,7 @@ use Rattle.rules.specs.declared.Cursor.{Cursor}
 use Rattle.rules.specs.Words.{when, unless, Answer, value, refused}
 use Rattle.rules.specs.Record.{Index, index, segments_of, widths_of, used_of, open_rule}
 use Rattle.rules.specs.Push.{Outcome, push_rule, length_rule, size_rule}
-use Rattle.rules.specs.Reading.{Ranged, Span, Stepped, done, gave, stays, get_rule, range_rule, iter_rule, step_rule, target_rule, bisect_rule, bisect_range_rule}
+use Rattle.rules.specs.Reading.{Ranged, Stepped, done, gave, stays, get_rule, range_rule, iter_rule, step_rule, target_rule, bisect_rule, bisect_range_rule}
 use Rattle.rules.specs.Refusals.{index_in, SameTables}
 use Rattle.replay.specs.declared.Call.{Call}
 use Rattle.replay.specs.declared.replies.Reply.{Reply}

@@ -26,28 +26,24 @@ pub fn run(rt: &(impl Input + Print)) -> io::Result<()> {
         widths: &mut widths,
         bytes: &mut bytes,
     };
-    let cursor = Cursor { next: 0, end: 0 };
-    let tally = replay_all(
-        rt,
-        Player {
-            index,
-            cursor,
-            out: &mut out,
-        },
-    );
+    let mut player = Player {
+        index,
+        cursor: Cursor { next: 0, end: 0 },
+        out: &mut out,
+    };
+    let tally = replay_all(rt, &mut player);
     write_tally(rt, tally)
 }
 
 // Replays each record of standard input. A read that fails counts as the end of the input.
 // The loop has to end and nothing says that the input does: it has more turns than any run takes.
-fn replay_all(rt: &impl Input, player: Player<'_>) -> Tally {
-    let mut player = player;
+fn replay_all(rt: &impl Input, player: &mut Player<'_>) -> Tally {
     let mut input = rt.reader();
     let mut tally = replay_tally::start();
     let mut recorded = [0u8; 64];
     for _ in 0..u64::MAX {
         let n = read_full(&mut input, &mut recorded);
-        tally = replay_tally::take(&mut player, tally, &recorded[..n]);
+        tally = replay_tally::take(player, tally, &recorded[..n]);
         if n < 64 {
             break;
         }
@@ -80,7 +76,10 @@ fn write_tally(rt: &impl Print, t: Tally) -> io::Result<()> {
         println!(rt; "tail {}", t.tail)?;
     }
     if let Some(d) = t.first {
-        println!(rt; "record {} kind {} due {} found {}", d.number, d.kind, d.due, d.found)?;
+        println!(rt;
+            "record {} kind {} due {} found {}",
+            d.number, d.kind, d.due, d.found
+        )?;
     }
     Ok(())
 }
