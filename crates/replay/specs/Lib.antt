@@ -1,1 +1,3 @@
+pub mod Kinds
+pub mod Replies
 pub mod Replaying

@@ -1,36 +1,24 @@
 -- What a recorded call answers by the rules, in a record's numbers, and what it leaves for the next call.
-use Rattle.std.specs.Prelude.{ℕ, List, ltb, eqb, length, get_or}
+use Rattle.std.specs.Prelude.{ℕ, List, ◌≡◌, ltb, eqb, length, get_or}
 use Rattle.rules.specs.declared.State.{State}
 use Rattle.rules.specs.declared.Cursor.{Cursor}
-use Rattle.rules.specs.declared.Pushed.{Pushed}
 use Rattle.rules.specs.Words.{when, unless, Answer, value, refused}
 use Rattle.rules.specs.Record.{Index, index, segments_of, widths_of, used_of, open_rule}
 use Rattle.rules.specs.Push.{Outcome, push_rule, length_rule, size_rule}
-use Rattle.rules.specs.Reading.{Ranged, Span, Stepped, done, gave, stays, get_rule, range_rule, iter_rule, step_rule, target_rule, bisect_rule, bisect_range_rule}
-use Rattle.rules.specs.Refusals.{number_of}
+use Rattle.rules.specs.Reading.{Ranged, Stepped, done, gave, stays, get_rule, range_rule, iter_rule, step_rule, target_rule, bisect_rule, bisect_range_rule}
+use Rattle.rules.specs.Refusals.{index_in, SameTables}
 use Rattle.replay.specs.declared.Call.{Call}
-use Rattle.replay.specs.declared.Reply.{Reply}
-use Rattle.replay.specs.declared.Replayed.{Replayed}
-
--- an answer of these three numbers
-abbrev pub reply : ℕ → ℕ → ℕ → Reply
-reply answered r s = record { answered = answered; r = r; s = s }
-
--- an answer of one number
-abbrev pub number_reply : Answer ℕ → Reply
-number_reply (value v) = reply 1 v 0
-number_reply (refused e) = reply 0 e 0
-
--- an answer of two numbers
-abbrev pub span_reply : Answer Span → Reply
-span_reply (value s) = reply 1 s.from s.to
-span_reply (refused e) = reply 0 e 0
-
--- a call of no known kind
-abbrev pub unknown_reply : Reply
-unknown_reply = reply 2 0 0
+use Rattle.replay.specs.declared.replies.Reply.{Reply}
+use Rattle.replay.specs.Replies.{reply, number_reply, span_reply, unknown_reply}
+use Rattle.replay.specs.declared.Player.{Player}
 
 -- a state, a cursor and an answer
+pub record Replayed : Type 0 where
+  pub state : State
+  pub cursor : Cursor
+  pub reply : Reply
+
+-- these three together
 abbrev pub replayed : State → Cursor → Reply → Replayed
 replayed s c y = record { state = s; cursor = c; reply = y }
 
@@ -38,11 +26,6 @@ replayed s c y = record { state = s; cursor = c; reply = y }
 abbrev pub after_open : State → Cursor → Answer State → Replayed
 after_open s c (value fresh) = replayed fresh c (reply 1 0 0)
 after_open s c (refused e) = replayed s c (reply 0 e 0)
-
--- after a push: the state that it left
-abbrev pub after_push : Cursor → Pushed → Replayed
-after_push c (Pushed.At s p) = replayed s c (reply 1 p 0)
-after_push c (Pushed.Refused s e) = replayed s c (reply 0 (number_of e) 0)
 
 -- after opening a walk: its cursor, or the one there was
 abbrev pub after_iter : State → Cursor → Answer Cursor → Replayed
@@ -108,13 +91,17 @@ pub record Played : Type 0 where
 abbrev pub played : Index → Cursor → List ℕ → Reply → Played
 played x c out y = record { index = x; cursor = c; out = out; reply = y }
 
--- what the code gives back, with the five tables and the output beside it
-abbrev pub played_of : Replayed → List ℕ → List ℕ → List ℕ → List ℕ → List ℕ → List ℕ → Played
-played_of r starts bases offsets widths bytes out = played (index r.state starts bases offsets widths bytes) r.cursor out r.reply
+-- a player still holds what it was lent
+abbrev pub SameLent : (new old : Player) → Type 0
+SameLent new old = SameTables new.index old.index × (new.out.ghost_name ≡ old.out.ghost_name)
 
--- the same over an index whose tables and output stay
+-- what a player holds, and an answer
+abbrev pub played_by : Player → Reply → Played
+played_by p y = played (index_in p.index) p.cursor p.out.now y
+
+-- the state and the cursor as a call left them, over an index whose tables and output stay
 abbrev pub unmoved : Index → List ℕ → Replayed → Played
-unmoved x out r = played_of r x.starts x.bases x.offsets x.widths x.bytes out
+unmoved x out r = played (index r.state x.starts x.bases x.offsets x.widths x.bytes) r.cursor out r.reply
 
 -- a push leaves its index
 abbrev pub push_played : Cursor → List ℕ → Outcome → Played

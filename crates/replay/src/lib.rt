@@ -1,12 +1,21 @@
-// Replaying recorded calls of an index: each is made by the proved code, and its answer is held to the recorded one.
+// Replaying recorded calls of an index: each is made by the proved code, and answers in a record's numbers.
 #![tactic(auto)]
 
-ghost use Rattle.std.specs.Prelude.{◌≡◌};
-ghost use Rattle.rules.specs.Record.{index};
-ghost use Rattle.rules.specs.Refusals.{number_of, opened_of, answer_of, target_of, walk_of, step_of};
-ghost use Rattle.replay.specs.Replaying.{reply, number_reply, span_reply, after_open, after_push, after_iter, after_step, entry_rule, table_rule, find_rule, reply_rule, read_rule, played_of, replay_rule};
+ghost use Rattle.std.specs.Prelude.{◌≡◌, None, ltb, length, slice_get};
+ghost use Rattle.rules.specs.Words.{when};
+ghost use Rattle.rules.specs.Record.{open_rule};
+ghost use Rattle.rules.specs.Reading.{range_rule, iter_rule, step_rule};
+ghost use Rattle.rules.specs.Refusals.{index_of, index_in};
+ghost use Rattle.replay.specs.Kinds.{kind_number};
+ghost use Rattle.replay.specs.Replaying.{SameLent, played_by, unmoved, range_played, after_open, after_iter, after_step, entry_rule, table_rule, reply_rule, replay_rule};
 
-use rules::{Cursor, Got, Opened, Pushed, Refusal, State, Step, Target, Walk};
+mod kinds;
+mod replies;
+
+pub use kinds::{Kind, Table, UnknownKind, UnknownTable};
+pub use replies::Reply;
+use rules::{CompactReader, CompactWriter, Cursor};
+use std::ops::Range;
 
 // A recorded call: its kind and its numbers.
 #[derive(Clone, Copy)]
@@ -17,372 +26,146 @@ pub struct Call {
     pub c: u64,
 }
 
-// An answer in a record's numbers.
-#[derive(Clone, Copy)]
-pub struct Reply {
-    // 1 for an answer, 0 for a refusal or an entry that is not there, 2 for a call of no known kind.
-    pub answered: u64,
-    // The answer, or the refusal's number.
-    pub r: u64,
-    // The second number of an answer of two.
-    pub s: u64,
-}
-
-// What a call leaves beside the tables and the output, and what it answers.
-#[derive(Clone, Copy)]
-pub struct Replayed {
-    // The index that the next call is made on.
-    pub state: State,
+// What calls are made on.
+#[derive(Drop)]
+pub struct Player<'a> {
+    // The index.
+    pub index: CompactWriter<'a>,
     // The walk that was opened last.
     pub cursor: Cursor,
-    // The call's answer.
-    pub reply: Reply,
+    // The output of get_range.
+    pub out: &'a mut [u64],
 }
 
-// Makes one call on what the calls before it left.
-pub fn replay(
-    state: State,
-    cursor: Cursor,
-    starts: &mut [u64],
-    bases: &mut [u64],
-    offsets: &mut [u64],
-    widths: &mut [u8],
-    bytes: &mut [u8],
-    out: &mut [u64],
-    call: Call,
-) -> Replayed
-    ensures { played_of result starts.new bases.new offsets.new widths.new bytes.new out.new
-        ≡ replay_rule (index state starts.old bases.old offsets.old widths.old bytes.old) cursor out.old call }
-{
-    let kind = call.kind;
-    let a = call.a;
-    let b = call.b;
-    if kind == 1 {
-        return opened(state, cursor, compact_index::compact_index(a));
-    }
-    if kind == 2 {
-        let answer = compact_writer::push(state, starts, bases, offsets, widths, bytes, a);
-        return pushed(cursor, answer);
-    }
-    if kind == 6 {
-        let got = compact_range::get_range(state, starts, bases, offsets, widths, bytes, a, b, out);
-        let reply = got_reply(got);
-        return Replayed {
-            state,
-            cursor,
-            reply,
+impl Player<'_> {
+    // Makes one call on what the calls before it left.
+    #[tactic(auto, unfolding(crate::specs::Replaying::replay_rule, crate::specs::Replaying::read_rule))]
+    pub fn play(&mut self, call: Call) -> Reply
+        ensures left { played_by self.new result ≡ replay_rule (index_in self.old.index) self.old.cursor self.old.out.now call }
+        ensures lent { SameLent self.new self.old }
+    {
+        let Ok(kind) = Kind::try_from(call.kind) else {
+            return Reply::UNKNOWN;
         };
+        match kind {
+            Kind::Open => self.open(call.a),
+            Kind::Push => Reply::from(compact_writer::push(&mut self.index, call.a)),
+            Kind::GetRange => self.get_range(&(call.a..call.b)),
+            Kind::Output => self.output(call.a),
+            Kind::Iter => self.iter(&(call.a..call.b)),
+            Kind::Step => self.step(),
+            _ => read(&self.index.reader(), kind, call),
+        }
     }
-    replay_read(
-        state, cursor, starts, bases, offsets, widths, bytes, out, call,
-    )
-}
 
-// Makes one call that changes neither the index nor the output.
-fn replay_read(
-    state: State,
-    cursor: Cursor,
-    starts: &[u64],
-    bases: &[u64],
-    offsets: &[u64],
-    widths: &[u8],
-    bytes: &[u8],
-    out: &[u64],
-    call: Call,
-) -> Replayed
-    ensures { result ≡ read_rule (index state starts.now bases.now offsets.now widths.now bytes.now) cursor out.now call }
-{
-    let kind = call.kind;
-    let a = call.a;
-    let b = call.b;
-    if kind == 7 {
-        let reply = entry(out, out.len() as u64, a);
-        return Replayed {
-            state,
-            cursor,
-            reply,
-        };
+    // Entry k of the output.
+    #[tactic(auto, unfolding(crate::specs::Replaying::entry_rule))]
+    fn output(&self, k: u64) -> Reply
+        ensures { result ≡ entry_rule self.now.out.now (length self.now.out.now) k }
+    {
+        let out = &*self.out;
+        Reply::from(out.get(k as usize).copied())
     }
-    if kind == 8 {
-        let walk = compact_iterator::iter(state, starts, bases, offsets, widths, bytes, a, b);
-        return walked(state, cursor, walk);
+
+    // Opens an index in place of the one there is.
+    fn open(&mut self, minimum: u64) -> Reply
+        ensures left { played_by self.new result ≡ unmoved (index_in self.old.index) self.old.out.now (after_open self.old.index.state self.old.cursor (open_rule minimum)) }
+        ensures lent { SameLent self.new self.old }
+    {
+        match compact_index::compact_index(minimum) {
+            Ok(fresh) => {
+                self.index.state = fresh;
+                Reply::from(0)
+            }
+            Err(e) => Reply::from(e),
+        }
     }
-    if kind == 9 {
-        let step = compact_iterator::step(cursor, state, starts, bases, offsets, widths, bytes);
-        return stepped(state, cursor, step);
+
+    // Puts the values of a range into the output.
+    fn get_range(&mut self, range: &Range<u64>) -> Reply
+        ensures left { played_by self.new result ≡ range_played (index_in self.old.index) self.old.cursor (range_rule (index_in self.old.index) range.now.start range.now.end self.old.out.now) }
+        ensures lent { SameLent self.new self.old }
+    {
+        let x = self.index.reader();
+        Reply::from(compact_range::get_range(&x, range, self.out))
     }
-    let reply = read_reply(state, starts, bases, offsets, widths, bytes, call);
-    Replayed {
-        state,
-        cursor,
-        reply,
+
+    // Opens a walk in place of the one there is.
+    fn iter(&mut self, range: &Range<u64>) -> Reply
+        ensures left { played_by self.new result ≡ unmoved (index_in self.old.index) self.old.out.now (after_iter self.old.index.state self.old.cursor (iter_rule (index_in self.old.index) range.now.start range.now.end)) }
+        ensures lent { SameLent self.new self.old }
+    {
+        match compact_iterator::iter(&self.index.reader(), range) {
+            Ok(from) => {
+                self.cursor = from;
+                Reply::from(0)
+            }
+            Err(e) => Reply::from(e),
+        }
+    }
+
+    // Takes a step of the walk; the second number says whether it was done.
+    fn step(&mut self) -> Reply
+        ensures left { played_by self.new result ≡ unmoved (index_in self.old.index) self.old.out.now (after_step self.old.index.state self.old.cursor (step_rule (index_in self.old.index) self.old.cursor)) }
+        ensures lent { SameLent self.new self.old }
+    {
+        match compact_iterator::step(self.cursor, &self.index.reader()) {
+            Ok(Some((v, moved))) => {
+                self.cursor = moved;
+                Reply::from(v)
+            }
+            Ok(None) => Reply::from((0, 1)),
+            Err(e) => Reply::from(e),
+        }
     }
 }
 
 // What a read of the index alone answers.
-fn read_reply(
-    s: State,
-    starts: &[u64],
-    bases: &[u64],
-    offsets: &[u64],
-    widths: &[u8],
-    bytes: &[u8],
-    call: Call,
-) -> Reply
-    ensures { result ≡ reply_rule (index s starts.now bases.now offsets.now widths.now bytes.now) call }
+#[tactic(auto, unfolding(crate::specs::Replaying::reply_rule, crate::specs::Replaying::find_rule))]
+fn read(x: &CompactReader<'_>, kind: Kind, call: Call) -> Reply
+    requires { kind_number kind ≡ call.kind }
+    ensures { result ≡ reply_rule (index_of x.now) call }
 {
-    let kind = call.kind;
     let a = call.a;
     let b = call.b;
-    if kind == 3 {
-        return got_reply(compact_reader::length(s, starts, bases, offsets, widths, bytes));
+    match kind {
+        Kind::Length => Reply::from(compact_reader::length(x)),
+        Kind::Size => Reply::from(compact_reader::size(x)),
+        Kind::Get => Reply::from(compact_reader::get(x, a)),
+        Kind::TargetRange => Reply::from(compact_reader::target_range(x, a, b)),
+        Kind::BisectLeft => Reply::from(compact_bisect::bisect_left(x, a)),
+        Kind::BisectRangeLeft => {
+            Reply::from(compact_bisect::bisect_range_left(x, &(a..b), call.c))
+        }
+        Kind::Entry => table_entry(x, a, b),
+        _ => Reply::UNKNOWN,
     }
-    if kind == 4 {
-        return got_reply(compact_reader::size(s, starts, bases, offsets, widths, bytes));
-    }
-    if kind == 5 {
-        return got_reply(compact_reader::get(s, starts, bases, offsets, widths, bytes, a));
-    }
-    if kind == 10 {
-        let target = compact_reader::target_range(s, starts, bases, offsets, widths, bytes, a, b);
-        return target_reply(target);
-    }
-    find_reply(s, starts, bases, offsets, widths, bytes, call)
-}
-
-// What a search of the index answers, or a look at one entry of its tables.
-fn find_reply(
-    s: State,
-    starts: &[u64],
-    bases: &[u64],
-    offsets: &[u64],
-    widths: &[u8],
-    bytes: &[u8],
-    call: Call,
-) -> Reply
-    ensures { result ≡ find_rule (index s starts.now bases.now offsets.now widths.now bytes.now) call }
-{
-    let kind = call.kind;
-    let a = call.a;
-    let b = call.b;
-    if kind == 11 {
-        return got_reply(compact_bisect::bisect_left(s, starts, bases, offsets, widths, bytes, a));
-    }
-    if kind == 12 {
-        return got_reply(compact_bisect::bisect_range_left(
-            s, starts, bases, offsets, widths, bytes, a, b, call.c,
-        ));
-    }
-    if kind == 13 {
-        return table_entry(s, starts, bases, offsets, widths, bytes, a, b);
-    }
-    unknown()
 }
 
 // Entry k of table number t.
-fn table_entry(
-    s: State,
-    starts: &[u64],
-    bases: &[u64],
-    offsets: &[u64],
-    widths: &[u8],
-    bytes: &[u8],
-    t: u64,
-    k: u64,
-) -> Reply
-    ensures { result ≡ table_rule (index s starts.now bases.now offsets.now widths.now bytes.now) t k }
+#[tactic(auto, using(crate::proofs::Entries::entry_found), unfolding(crate::specs::Replaying::table_rule))]
+fn table_entry(x: &CompactReader<'_>, t: u64, k: u64) -> Reply
+    ensures { result ≡ table_rule (index_of x.now) t k }
 {
-    if t == 0 {
-        return entry(starts, s.segments, k);
-    }
-    if t == 1 {
-        return entry(bases, s.segments, k);
-    }
-    if t == 2 {
-        return entry(offsets, s.segments, k);
-    }
-    if t == 3 {
-        return byte_entry(widths, s.widths, k);
-    }
-    if t == 4 {
-        return byte_entry(bytes, s.used, k);
-    }
-    unknown()
-}
-
-// Entry k of a table of which n entries are in use.
-fn entry(table: &[u64], n: u64, k: u64) -> Reply
-    ensures { result ≡ entry_rule table.now n k }
-{
-    if n <= k {
-        return absent();
-    }
-    if table.len() as u64 <= k {
-        return absent();
-    }
-    number(table[k as usize])
-}
-
-// The same of a table of bytes.
-fn byte_entry(table: &[u8], n: u64, k: u64) -> Reply
-    ensures { result ≡ entry_rule table.now n k }
-{
-    if n <= k {
-        return absent();
-    }
-    if table.len() as u64 <= k {
-        return absent();
-    }
-    byte(table[k as usize])
-}
-
-// After opening an index: its fresh state, or the one there was.
-fn opened(state: State, cursor: Cursor, answer: Opened) -> Replayed
-    ensures { result ≡ after_open state cursor (opened_of answer) }
-{
-    match answer {
-        Opened::Fresh(fresh) => Replayed {
-            state: fresh,
-            cursor,
-            reply: number(0),
-        },
-        Opened::Refused(e) => Replayed {
-            state,
-            cursor,
-            reply: refusal(e),
-        },
+    let Ok(table) = Table::try_from(t) else {
+        return Reply::UNKNOWN;
+    };
+    let s = x.state;
+    match table {
+        Table::Starts => Reply::from(in_use(x.starts, s.segments, k)),
+        Table::Bases => Reply::from(in_use(x.bases, s.segments, k)),
+        Table::Offsets => Reply::from(in_use(x.offsets, s.segments, k)),
+        Table::Widths => Reply::from(in_use(x.widths, s.widths, k).map(u64::from)),
+        Table::Bytes => Reply::from(in_use(x.bytes, s.used, k).map(u64::from)),
     }
 }
 
-// After a push: the state that it left.
-fn pushed(cursor: Cursor, answer: Pushed) -> Replayed
-    ensures { result ≡ after_push cursor answer }
+// Entry k of a table of which n entries are in use, if there is one.
+fn in_use<T: Copy>(table: &[T], n: u64, k: u64) -> Option<T>
+    ensures { result ≡ when (ltb k n) (slice_get table.now k) None }
 {
-    match answer {
-        Pushed::At(state, p) => Replayed {
-            state,
-            cursor,
-            reply: number(p),
-        },
-        Pushed::Refused(state, e) => Replayed {
-            state,
-            cursor,
-            reply: refusal(e),
-        },
+    if k < n {
+        return table.get(k as usize).copied();
     }
-}
-
-// After opening a walk: its cursor, or the one there was.
-fn walked(state: State, cursor: Cursor, walk: Walk) -> Replayed
-    ensures { result ≡ after_iter state cursor (walk_of walk) }
-{
-    match walk {
-        Walk::From(from) => Replayed {
-            state,
-            cursor: from,
-            reply: number(0),
-        },
-        Walk::Refused(e) => Replayed {
-            state,
-            cursor,
-            reply: refusal(e),
-        },
-    }
-}
-
-// After a step: the cursor that it left; the second number says whether the walk was done.
-fn stepped(state: State, cursor: Cursor, step: Step) -> Replayed
-    ensures { result ≡ after_step state cursor (step_of step) }
-{
-    match step {
-        Step::Done => Replayed {
-            state,
-            cursor,
-            reply: pair(0, 1),
-        },
-        Step::Gave(v, moved) => Replayed {
-            state,
-            cursor: moved,
-            reply: number(v),
-        },
-        Step::Refused(same, e) => Replayed {
-            state,
-            cursor: same,
-            reply: refusal(e),
-        },
-    }
-}
-
-// An answer of one number.
-fn got_reply(got: Got) -> Reply
-    ensures { result ≡ number_reply (answer_of got) }
-{
-    match got {
-        Got::Value(v) => number(v),
-        Got::Refused(e) => refusal(e),
-    }
-}
-
-// An answer of two numbers.
-fn target_reply(target: Target) -> Reply
-    ensures { result ≡ span_reply (target_of target) }
-{
-    match target {
-        Target::Range(from, to) => pair(from, to),
-        Target::Refused(e) => refusal(e),
-    }
-}
-
-// The number v as an answer.
-fn number(v: u64) -> Reply
-    ensures { result ≡ reply 1 v 0 }
-{
-    pair(v, 0)
-}
-
-// The byte b as an answer.
-fn byte(b: u8) -> Reply
-    ensures { result ≡ reply 1 b 0 }
-{
-    number(b as u64)
-}
-
-// Two numbers as an answer.
-fn pair(r: u64, s: u64) -> Reply
-    ensures { result ≡ reply 1 r s }
-{
-    Reply { answered: 1, r, s }
-}
-
-// A refusal as an answer.
-fn refusal(e: Refusal) -> Reply
-    ensures { result ≡ reply 0 (number_of e) 0 }
-{
-    Reply {
-        answered: 0,
-        r: crossing::number_of(e),
-        s: 0,
-    }
-}
-
-// That an entry is not there.
-fn absent() -> Reply
-    ensures { result ≡ reply 0 0 0 }
-{
-    Reply {
-        answered: 0,
-        r: 0,
-        s: 0,
-    }
-}
-
-// That a call is of no known kind.
-fn unknown() -> Reply
-    ensures { result ≡ reply 2 0 0 }
-{
-    Reply {
-        answered: 2,
-        r: 0,
-        s: 0,
-    }
+    None
 }

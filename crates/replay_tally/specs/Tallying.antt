@@ -1,16 +1,18 @@
 -- A list of records replayed: what a record says, how its answer is held to the recorded one, and what is counted.
-use Rattle.std.specs.Prelude.{ℕ, ◌+◌, ◌-◌, ◌*◌, ◌^◌, Bool, true, false, List, [], ◌∷◌, ltb, eqb}
-use Rattle.rules.specs.declared.State.{State}
+use Rattle.std.specs.Prelude.{ℕ, ◌+◌, ◌-◌, ◌*◌, ◌^◌, Bool, true, false, List, [], ◌∷◌, Some, None, ltb, eqb}
+use Rattle.std.specs.declared.option.Option.{Option}
 use Rattle.rules.specs.declared.Cursor.{Cursor}
 use Rattle.rules.specs.Words.{when, ◌≡?◌, when_all}
-use Rattle.rules.specs.Record.{Index, index}
+use Rattle.rules.specs.Record.{Index}
 use Rattle.rules.specs.Push.{delta_at}
+use Rattle.rules.specs.Refusals.{index_in}
 use Rattle.replay.specs.declared.Call.{Call}
-use Rattle.replay.specs.declared.Reply.{Reply}
-use Rattle.replay.specs.Replaying.{reply, Played, replay_rule}
+use Rattle.replay.specs.declared.Player.{Player}
+use Rattle.replay.specs.declared.replies.Reply.{Reply}
+use Rattle.replay.specs.Replies.{reply}
+use Rattle.replay.specs.Replaying.{Played, replay_rule}
 use Rattle.replay_tally.specs.declared.Difference.{Difference}
 use Rattle.replay_tally.specs.declared.Tally.{Tally}
-use Rattle.replay_tally.specs.declared.Progress.{Progress}
 
 -- word i of a record: eight bytes, least significant first
 abbrev pub word_of : List ℕ → ℕ → ℕ
@@ -37,12 +39,13 @@ abbrev pub difference : ℕ → ℕ → Reply → Reply → Difference
 difference number kind due found = record { number = number; kind = kind; due = due; found = found }
 
 -- what has been counted: records, those that differ, those of no known kind, the bytes of a tail; and the first difference
-abbrev pub tally : ℕ → ℕ → ℕ → ℕ → Difference → Tally
+abbrev pub tally : ℕ → ℕ → ℕ → ℕ → Option Difference → Tally
 tally records differ unknown tail first = record { records = records; differ = differ; unknown = unknown; tail = tail; first = first }
 
 -- the first difference there was, or else this one
-unfoldable pub first_of : Difference → Difference → Difference
-first_of old new = when (eqb old.number 0) new old
+abbrev pub first_of : Option Difference → Difference → Option Difference
+first_of None new = Some new
+first_of (Some old) new = Some old
 
 -- one more of no known kind, if that was found
 unfoldable pub unknown_after : ℕ → Reply → ℕ
@@ -67,13 +70,9 @@ pub record Going : Type 0 where
 abbrev pub going : Index → Cursor → List ℕ → Tally → Going
 going x c out t = record { index = x; cursor = c; out = out; tally = t }
 
--- what the code carries of them
-abbrev pub progress : State → Cursor → Tally → Progress
-progress s c t = record { state = s; cursor = c; tally = t }
-
--- what the code carries, with the five tables and the output beside it
-abbrev pub going_of : Progress → List ℕ → List ℕ → List ℕ → List ℕ → List ℕ → List ℕ → Going
-going_of p starts bases offsets widths bytes out = going (index p.state starts bases offsets widths bytes) p.cursor out p.tally
+-- what a player holds, and what has been counted
+abbrev pub going_by : Player → Tally → Going
+going_by p t = going (index_in p.index) p.cursor p.out.now t
 
 -- after a call: what it left, and its answer counted
 abbrev pub tallied : Tally → List ℕ → Played → Going
