@@ -1,6 +1,6 @@
 -- get_range as a whole: what each of its returns says of the rule.
 use Prim.Native.Nat.{ℕ, zero, suc, ◌+◌, ◌-◌, ◌≤◌, ◌<◌}
-use mathlib.Core.Bool.{Bool, true, false}
+use mathlib.Core.Bool.{true, false}
 use mathlib.Core.List.{List, [], ◌∷◌}
 use mathlib.Core.Path.{◌≡◌, refl, sym, ap, ◌∙◌}
 use native.Mathlib.Omega.{arith}
@@ -8,10 +8,10 @@ use lib.Dec.{ltb, eqb}
 use lib.ListN.{length, set}
 use lib.Seq.{sets}
 use borrow.Author.Tests.{lt-ltb}
-use Rattle.rules.specs.Words.{when, Answer, value, refused}
+use Rattle.rules.specs.Words.{Answer, value, refused}
 use Rattle.rules.specs.Record.{Index, minimum_of, length_of, widths_of, used_of, start, base, offset, width, counts_hold}
 use Rattle.rules.specs.Reading.{damaged, delta_read, read_in, starts_up_to, get_rule, before, reads, ranged, written}
-use Rattle.laws.proofs.Tests.{false_not_true, when_all_case}
+use Rattle.laws.proofs.Tests.{false_not_true, when_case, when_all_case}
 use Rattle.range_reads.specs.Values.{is_value}
 use Rattle.range_write.specs.Puts.{value_of, gets, puts}
 use Rattle.range_write.proofs.Given.{reads_at}
@@ -61,13 +61,9 @@ value_is (refused r) e = false_not_true false e refl
 abbrev OrDamaged : {A : Type 0} → Answer A → Type 0
 OrDamaged g = is_value g ≡ false → g ≡ damaged
 
--- so a value is; a choice between two such; and a value or damage before several
+-- so a value is; and a value or damage before several
 value_or : {A : Type 0} (v : A) → OrDamaged (value v)
 value_or v e = false_not_true true refl e
-
-when_or : (t : Bool) (a b : Answer ℕ) → OrDamaged a → OrDamaged b → OrDamaged (when t a b)
-when_or true a b f g e = f e
-when_or false a b f g e = g e
 
 before_or : (g : Answer ℕ) (s : Answer (List ℕ)) → OrDamaged g → OrDamaged s → OrDamaged (before g s)
 before_or (value v) (value vs) f h e = value_or (v ∷ vs) e
@@ -82,17 +78,16 @@ delta_or m used bytes base offset i w = when_all_case OrDamaged _ (λ f. value_o
 read_or : (x : Index) (k p : ℕ) → OrDamaged (read_in x k p)
 unfolding read_in
 read_or x k p =
-    let d = delta_read (minimum_of x) (used_of x) x.bytes (base x k) (offset x k) (p - start x k - 1) (width x k) in
-    let h = when (ltb k (widths_of x)) d damaged in
-    when_or (ltb p (start x k)) damaged (when (eqb p (start x k)) (value (base x k)) h) (λ e. refl)
-    (when_or (eqb p (start x k)) (value (base x k)) h (value_or (base x k))
-    (when_or (ltb k (widths_of x)) d damaged
-    (delta_or (minimum_of x) (used_of x) x.bytes (base x k) (offset x k) (p - start x k - 1) (width x k)) (λ e. refl)))
+    when_case OrDamaged (ltb p (start x k)) (λ t e. refl)
+    (λ t. when_case OrDamaged (eqb p (start x k)) (λ u. value_or (base x k))
+    (λ u. when_case OrDamaged (ltb k (widths_of x))
+    (λ v. delta_or (minimum_of x) (used_of x) x.bytes (base x k) (offset x k) (p - start x k - 1) (width x k)) (λ v e. refl)))
 
 get_rule_or : (x : Index) (p : ℕ) → counts_hold x ≡ true → p < length_of x → OrDamaged (get_rule x p)
 unfolding get_rule
 get_rule_or x p c h =
-    rw (c, lt-ltb p (length_of x) h, get_rule) (when_or (eqb (starts_up_to x p) 0) damaged (read_in x (starts_up_to x p - 1) p) (λ e. refl) (read_or x (starts_up_to x p - 1) p))
+    rw (c, lt-ltb p (length_of x) h, get_rule)
+    (when_case OrDamaged (eqb (starts_up_to x p) 0) (λ t e. refl) (λ t. read_or x (starts_up_to x p - 1) p))
 
 -- and so the reads of a range within the length
 reads_or : (x : Index) (n a : ℕ) → counts_hold x ≡ true → a + n ≤ length_of x → OrDamaged (reads x a n)

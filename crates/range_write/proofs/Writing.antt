@@ -1,4 +1,4 @@
--- Putting values: runs of puts one after another, a segment's base and deltas as its reads, and the segments as the range.
+-- Putting values: runs of puts one after another, into a part of the output that is lent, and the base and deltas of a segment as its reads.
 use Prim.Native.Nat.{ℕ, zero, suc, ◌+◌, ◌-◌, ◌*◌, ◌^◌, ◌≤◌, ◌<◌}
 use mathlib.Core.Bool.{true, false}
 use mathlib.Core.List.{List, ◌++◌}
