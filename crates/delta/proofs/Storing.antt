@@ -13,10 +13,6 @@ use Rattle.rules.specs.Push.{delta_bytes}
 pub store_step : (l : List ℕ) (i d n m : ℕ) → n ≡ suc m → sets l i (delta_bytes n d) ≡ sets (set l i (d % 256)) (suc i) (delta_bytes m (d / 256))
 store_step l i d n m e = rw e
 
--- nothing is left to store
-pub store_done : (l : List ℕ) (i d n : ℕ) → n ≡ 0 → l ≡ sets l i (delta_bytes n d)
-store_done l i d n e = rw e
-
 -- a run of stores in a part, said of the whole
 pub sets_mid : (a k : ℕ) (vs l : List ℕ) (i : ℕ) → i + length vs ≤ k → put_mid a k l (sets (mid_of a k l) i vs) ≡ sets l (a + i) vs
 sets_mid a k [] l i h = put_same a k l
