@@ -87,5 +87,5 @@ impl<'a> Feed<'a> {
 fn with_byte(partial: u64, byte: u8) -> u64
     ensures { result ≡ with_byte partial byte }
 {
-    partial / 256 + byte as u64 * 72057594037927936
+    partial / 256 + ((byte as u64) << 56)
 }

@@ -1,5 +1,6 @@
 -- An answer in a record's numbers.
-use Rattle.std.specs.Prelude.{ℕ, Some, None}
+use Rattle.std.specs.Prelude.{ℕ, List, ◌++◌, Some, None, codes}
+use Rattle.std.specs.Fmt.{decimal}
 use Rattle.std.specs.declared.option.Option.{Option}
 use Rattle.rules.specs.Words.{Answer, value, refused}
 use Rattle.rules.specs.Reading.{Span}
@@ -27,3 +28,7 @@ unknown_reply = reply 2 0 0
 abbrev pub entry_reply : Option ℕ → Reply
 entry_reply None = reply 0 0 0
 entry_reply (Some v) = reply 1 v 0
+
+-- an answer's three numbers as text
+abbrev pub three_numbers : Reply → List ℕ
+three_numbers y = decimal y.answered ++ codes " " ++ decimal y.r ++ codes " " ++ decimal y.s

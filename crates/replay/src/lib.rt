@@ -3,8 +3,8 @@
 
 ghost use Rattle.std.specs.Prelude.{◌≡◌, None, ltb, length, slice_get};
 ghost use Rattle.rules.specs.Words.{when};
-ghost use Rattle.rules.specs.Record.{open_rule};
-ghost use Rattle.rules.specs.Reading.{range_rule, iter_rule, step_rule};
+ghost use Rattle.rules.specs.Record.{index, fresh_state, default_minimum, open_rule};
+ghost use Rattle.rules.specs.Reading.{cursor, range_rule, iter_rule, step_rule};
 ghost use Rattle.rules.specs.Refusals.{index_of, index_in};
 ghost use Rattle.replay.specs.Kinds.{kind_number};
 ghost use Rattle.replay.specs.Replaying.{SameLent, played_by, unmoved, range_played, after_open, after_iter, after_step, entry_rule, table_rule, reply_rule, replay_rule};
@@ -37,7 +37,40 @@ pub struct Player<'a> {
     pub out: &'a mut [u64],
 }
 
-impl Player<'_> {
+impl<'a> Player<'a> {
+    // A fresh index with the default minimum over these tables, and a walk that is done.
+    pub fn start(
+        starts: &'a mut [u64],
+        bases: &'a mut [u64],
+        offsets: &'a mut [u64],
+        widths: &'a mut [u8],
+        bytes: &'a mut [u8],
+        out: &'a mut [u64],
+    ) -> Player<'a>
+        ensures index { index_in result.index ≡ index (fresh_state default_minimum) starts.old bases.old offsets.old widths.old bytes.old }
+        ensures cursor { result.cursor ≡ cursor 0 0 }
+        ensures out { result.out.now ≡ out.old }
+        ensures lent { (result.index.starts.ghost_name ≡ starts.entry.ghost_name)
+            × (result.index.bases.ghost_name ≡ bases.entry.ghost_name)
+            × (result.index.offsets.ghost_name ≡ offsets.entry.ghost_name)
+            × (result.index.widths.ghost_name ≡ widths.entry.ghost_name)
+            × (result.index.bytes.ghost_name ≡ bytes.entry.ghost_name)
+            × (result.out.ghost_name ≡ out.entry.ghost_name) }
+    {
+        Player {
+            index: CompactWriter {
+                state: compact_index::default_index(),
+                starts,
+                bases,
+                offsets,
+                widths,
+                bytes,
+            },
+            cursor: Cursor { next: 0, end: 0 },
+            out,
+        }
+    }
+
     // Makes one call on what the calls before it left.
     #[tactic(auto, unfolding(crate::specs::Replaying::replay_rule, crate::specs::Replaying::read_rule))]
     pub fn play(&mut self, call: Call) -> Reply

@@ -1,9 +1,9 @@
 // An answer in a record's numbers.
 #![tactic(auto)]
 
-ghost use Rattle.std.specs.Prelude.{◌≡◌};
+ghost use Rattle.std.specs.Prelude.{◌≡◌, Some};
 ghost use Rattle.rules.specs.Refusals.{number_of, answer_of, target_of};
-ghost use Rattle.replay.specs.Replies.{reply, number_reply, span_reply, entry_reply};
+ghost use Rattle.replay.specs.Replies.{reply, number_reply, span_reply, entry_reply, three_numbers};
 
 use rules::Refusal;
 use std::fmt;
@@ -102,6 +102,8 @@ impl From<Option<u64>> for Reply {
 }
 
 impl fmt::Display for Reply {
+    ghost output = { λ y. Some (three_numbers y) };
+
     fn fmt<W: fmt::Write>(&self, f: &mut fmt::Formatter<W>) -> fmt::Result {
         write!(f, "{} {} {}", self.answered, self.r, self.s)
     }

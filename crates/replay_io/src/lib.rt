@@ -5,7 +5,6 @@ ghost use Rattle.std.specs.Prelude.{◌≤◌, length};
 
 use replay::Player;
 use replay_tally::Tally;
-use rules::{CompactWriter, Cursor};
 use std::io;
 use std::io::Read;
 
@@ -18,19 +17,14 @@ pub fn run(rt: &(impl Input + Print)) -> io::Result<()> {
     let mut widths = [0u8; 24];
     let mut bytes = [0u8; 192];
     let mut out = [0u64; 24];
-    let index = CompactWriter {
-        state: compact_index::default_index(),
-        starts: &mut starts,
-        bases: &mut bases,
-        offsets: &mut offsets,
-        widths: &mut widths,
-        bytes: &mut bytes,
-    };
-    let mut player = Player {
-        index,
-        cursor: Cursor { next: 0, end: 0 },
-        out: &mut out,
-    };
+    let mut player = Player::start(
+        &mut starts,
+        &mut bases,
+        &mut offsets,
+        &mut widths,
+        &mut bytes,
+        &mut out,
+    );
     let tally = replay_all(rt, &mut player);
     write_tally(rt, tally)
 }

@@ -51,21 +51,20 @@ pub fn take(player: &mut Player<'_>, t: Tally, recorded: &[u8]) -> Tally
     ensures left { going_by player.new result ≡ take_rule (going_by player.old t) recorded.now (length recorded.now) }
     ensures lent { SameLent player.new player.old }
 {
-    if recorded.len() < 64 {
+    let Some(record) = recorded.first_chunk() else {
         return Tally {
             tail: recorded.len() as u64,
             ..t
         };
-    }
-    let call = call_of(recorded);
-    let due = due_of(recorded);
+    };
+    let call = call_of(record);
+    let due = due_of(record);
     let found = player.play(call);
     count(t, call.kind, due, found)
 }
 
 // The call that a record names.
-fn call_of(recorded: &[u8]) -> Call
-    requires { 64 ≤ length recorded.now }
+fn call_of(recorded: &[u8; 64]) -> Call
     ensures { result ≡ call_of recorded.now }
 {
     Call {
@@ -77,8 +76,7 @@ fn call_of(recorded: &[u8]) -> Call
 }
 
 // The answer that a record says is due.
-fn due_of(recorded: &[u8]) -> Reply
-    requires { 64 ≤ length recorded.now }
+fn due_of(recorded: &[u8; 64]) -> Reply
     ensures { result ≡ due_of recorded.now }
 {
     Reply {
@@ -89,8 +87,8 @@ fn due_of(recorded: &[u8]) -> Reply
 }
 
 // Word i of a record.
-fn word(recorded: &[u8], i: u64) -> u64
-    requires { (i < 8) × (64 ≤ length recorded.now) }
+fn word(recorded: &[u8; 64], i: u64) -> u64
+    requires { i < 8 }
     ensures { result ≡ word_of recorded.now i }
 {
     delta::delta_at(recorded, 8 * i, 8)
@@ -130,7 +128,7 @@ fn count(t: Tally, kind: u64, due: Reply, found: Reply) -> Tally
 fn unknown_after(n: u64, found: Reply) -> u64
     ensures { result ≡ unknown_after n found }
 {
-    if found.answered == 2 {
+    if found.answered == Reply::UNKNOWN.answered {
         return n.saturating_add(1);
     }
     n
