@@ -13,9 +13,15 @@ pub fn next(c: &mut Cursor, x: &CompactReader<'_>) -> Result<Option<u64>, Refusa
     ensures answers { stepped_to c.new result ≡ step_rule (index_of x.now) c.old }
     ensures moves { c.new ≡ left_by c.old (step_rule (index_of x.now) c.old) }
 {
-    let Some((value, moved)) = compact_iterator::step(*c, x)? else {
-        return Ok(None);
-    };
-    *c = moved;
-    Ok(Some(value))
+    match compact_iterator::step(*c, x) {
+        Ok(None) => Ok(None),
+        Ok(Some((value, moved))) => {
+            *c = moved;
+            Ok(Some(value))
+        }
+        Err(stayed) => {
+            *c = stayed.cursor;
+            Err(stayed.refusal)
+        }
+    }
 }

@@ -5,7 +5,7 @@ ghost use Rattle.std.specs.Prelude.{◌≡◌};
 ghost use Rattle.rules.specs.Reading.{iter_rule, step_rule};
 ghost use Rattle.rules.specs.Refusals.{index_of, answer_of, step_of};
 
-use rules::{CompactReader, Cursor, Refusal};
+use rules::{CompactReader, Cursor, Refusal, Stayed};
 use std::ops::Range;
 
 // Opens a walk over a range of positions: answers its cursor, and reads no entry.
@@ -20,15 +20,15 @@ pub fn iter(x: &CompactReader<'_>, range: &Range<u64>) -> Result<Cursor, Refusal
     })
 }
 
-// One step: the value at next and the cursor moved by one; or that the walk is done; or a refusal, and the cursor is as it was.
+// One step: the value at next and the cursor moved by one; or that the walk is done; or a refusal and the cursor as it was.
 #[tactic(auto, unfolding(rules::specs::Reading::step_rule))]
-pub fn step(c: Cursor, x: &CompactReader<'_>) -> Result<Option<(u64, Cursor)>, Refusal>
-    ensures { step_of c result ≡ step_rule (index_of x.now) c }
+pub fn step(c: Cursor, x: &CompactReader<'_>) -> Result<Option<(u64, Cursor)>, Stayed>
+    ensures { step_of result ≡ step_rule (index_of x.now) c }
 {
     if c.end <= c.next {
         return Ok(None);
     }
-    let value = compact_reader::get(x, c.next)?;
+    let value = compact_reader::get(x, c.next).map_err(|refusal| Stayed { cursor: c, refusal })?;
     let moved = Cursor {
         next: c.next + 1,
         end: c.end,

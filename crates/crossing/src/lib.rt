@@ -8,7 +8,7 @@ ghost use Rattle.rules.specs.Record.{index, state_at};
 ghost use Rattle.rules.specs.Refusals.{index_of, answer_of, target_of, step_of};
 ghost use Rattle.crossing.specs.Told.{told, telling, walked, step_telling, found, verdict_telling};
 
-use rules::{CompactReader, Cursor, Flaw, Refusal, State};
+use rules::{CompactReader, Cursor, Flaw, Refusal, State, Stayed};
 use std::ops::Range;
 
 // The index of a state's five numbers and the five lent tables, to read.
@@ -59,14 +59,14 @@ pub fn tell_target(target: Result<Range<u64>, Refusal>, start: &mut u64, end: &m
     }
 }
 
-// Tells a step from the cursor of the two numbers: 0 and done; 0, the value and the moved cursor; or the refusal's number alone.
+// Tells a step: 0 and done; 0, the value and the moved cursor; or the refusal's number alone.
 pub fn tell_step(
-    step: Result<Option<(u64, Cursor)>, Refusal>,
+    step: Result<Option<(u64, Cursor)>, Stayed>,
     cursor: &mut [u64; 2],
     value: &mut u64,
     done: &mut u64,
 ) -> u64
-    ensures { told result (walked (cursor_at cursor.new) value.new done.new) ≡ step_telling (step_of (cursor_at cursor.old) step) (walked (cursor_at cursor.old) value.old done.old) }
+    ensures { told result (walked (cursor_at cursor.new) value.new done.new) ≡ step_telling (step_of step) (walked (cursor_at cursor.old) value.old done.old) }
 {
     match step {
         Ok(None) => {
@@ -79,7 +79,10 @@ pub fn tell_step(
             *done = 0;
             0
         }
-        Err(e) => u64::from(e),
+        Err(stayed) => {
+            *cursor = stayed.cursor.into();
+            u64::from(stayed.refusal)
+        }
     }
 }
 

@@ -21,15 +21,7 @@ fn main(rt: HostRuntime) -> io::Result<()> {
     };
     let _first = compact_writer::push(&mut writer, 10);
     let _second = compact_writer::push(&mut writer, 266);
-    let reader = CompactReader {
-        state: writer.state,
-        starts: &starts,
-        bases: &bases,
-        offsets: &offsets,
-        widths: &widths,
-        bytes: &bytes,
-    };
-    walk(&rt, &reader)?;
+    walk(&rt, &writer.reader())?;
     show_run(&rt, 10, 2, 0)?;
     show_run(&rt, 10, 2, 1)?;
     show_run(&rt, 10, 2, 2)?;

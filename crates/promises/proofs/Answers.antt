@@ -9,6 +9,7 @@ use Rattle.std.specs.declared.option.Option.{Option}
 use Rattle.std.specs.declared.ops.Range.{Range}
 use Rattle.rules.specs.declared.Cursor.{Cursor}
 use Rattle.rules.specs.declared.Refusal.{Refusal}
+use Rattle.rules.specs.declared.Stayed.{Stayed}
 use Rattle.rules.specs.Words.{Answer, refused}
 use Rattle.rules.specs.Record.{Index}
 use Rattle.rules.specs.Push.{outcome, push_rule}
@@ -16,7 +17,7 @@ use Rattle.rules.specs.Reading.{Span, ranged, stays, range_rule, step_rule}
 use Rattle.rules.specs.Refusals.{number_of, answer_of, target_of, step_of}
 use Rattle.promises.specs.Sentences.{Sentence, Given, Exactly}
 use Rattle.promises.specs.Table.{push_table, get_table, range_table}
-use Rattle.promises.specs.Outcomes.{One, PushLeft, push_says, push_unchanged, RangeLeft, range_says, range_unchanged}
+use Rattle.promises.specs.Outcomes.{One, PushLeft, push_says, push_unchanged, RangeLeft, range_says, range_unchanged, step_unchanged}
 use Rattle.promises.proofs.Deciding.{exactly}
 use Rattle.promises.proofs.Push.{push_decided}
 use Rattle.promises.proofs.Reading.{range_decided}
@@ -57,10 +58,10 @@ range_refuses x a b out e =
     (λ q. ap (λ r. ranged r (range_rule x a b out).left) q ∙ ap (ranged (refused (number_of e))) (range_refused x a b out (number_of e) q))
     (exactly (range_decided x a b out))
 
--- a step: the refusal leaves the cursor as it was
-pub step_refuses : (x : Index) (c : Cursor) (e : Refusal) (r : Result (Option (ℕ × Cursor)) Refusal) → step_of c r ≡ step_rule x c
-    → (r ≡ Err e) ↔ ((c.next < c.end) × Given (get_table x c.next) (number_of e))
+-- a step: the refusal comes with the cursor as it was
+pub step_refuses : (x : Index) (c : Cursor) (e : Refusal) (r : Result (Option (ℕ × Cursor)) Stayed) → step_of r ≡ step_rule x c
+    → (r ≡ Err (step_unchanged c e)) ↔ ((c.next < c.end) × Given (get_table x c.next) (number_of e))
 step_refuses x c e r promise = (
-  λ h. ((step_decided x c).refuses (number_of e)).0 (sym promise ∙ ap (step_of c) h),
-  λ g. one_stepped c (stays (number_of e) c) r (Err e) (promise ∙ ((step_decided x c).refuses (number_of e)).1 g) refl,
+  λ h. ((step_decided x c).refuses (number_of e)).0 (sym promise ∙ ap step_of h),
+  λ g. one_stepped (stays (number_of e) c) r (Err (step_unchanged c e)) (promise ∙ ((step_decided x c).refuses (number_of e)).1 g) refl,
 )

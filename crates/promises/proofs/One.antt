@@ -9,6 +9,7 @@ use Rattle.std.specs.declared.ops.Range.{Range}
 use Rattle.rules.specs.declared.Cursor.{Cursor}
 use Rattle.rules.specs.declared.Refusal.{Refusal}
 use Rattle.rules.specs.declared.Refusal.TheVariants.{Below, SegmentRoom, WidthRoom, DataRoom, Position, RangeEnd, Reversed, OutputRoom, Counts, Damaged, Minimum}
+use Rattle.rules.specs.declared.Stayed.{Stayed}
 use Rattle.rules.specs.declared.Letter as code-letter
 use Rattle.rules.specs.declared.Flaw.{Flaw}
 use Rattle.rules.specs.Words.{when, Answer, value, refused}
@@ -101,18 +102,18 @@ one_targeted rule = one target_of back rule same
     same (Err e) = rw (same_refusal e)
 
 -- a step: its answer and its cursor
-pub one_stepped : (c : Cursor) (rule : Stepped) → One (step_of c) rule
-one_stepped c rule = one (step_of c) back rule same
+pub one_stepped : (rule : Stepped) → One step_of rule
+one_stepped rule = one step_of back rule same
   where
-    back : Stepped → Result (Option (ℕ × Cursor)) Refusal
+    back : Stepped → Result (Option (ℕ × Cursor)) Stayed
     back done = Ok None
-    back (gave v d) = Ok (Some (v, d))
-    back (stays e d) = Err (refusal_of e)
+    back (gave v c) = Ok (Some (v, c))
+    back (stays e c) = Err (record { cursor = c; refusal = refusal_of e })
 
-    same : (r : Result (Option (ℕ × Cursor)) Refusal) → back (step_of c r) ≡ r
+    same : (r : Result (Option (ℕ × Cursor)) Stayed) → back (step_of r) ≡ r
     same (Ok None) = refl
     same (Ok (Some p)) = refl
-    same (Err e) = rw (same_refusal e)
+    same (Err s) = rw (same_refusal s.refusal)
 
 -- the audit: well formed, or a letter and a segment
 pub one_judged : (rule : Verdict) → One verdict_of rule

@@ -1,7 +1,9 @@
 -- What "no second answer fits" means, and what a push and a get_range leave beside their answer.
 use Rattle.std.specs.Prelude.{ℕ, List, ◌≡◌, Err}
 use Rattle.std.specs.declared.result.Result.{Result}
+use Rattle.rules.specs.declared.Cursor.{Cursor}
 use Rattle.rules.specs.declared.Refusal.{Refusal}
+use Rattle.rules.specs.declared.Stayed.{Stayed}
 use Rattle.rules.specs.Record.{Index}
 use Rattle.rules.specs.Push.{Outcome, outcome}
 use Rattle.rules.specs.Reading.{Ranged, ranged}
@@ -36,3 +38,7 @@ range_says r = ranged (answer_of r.answer) r.out
 -- the refusal e, with the output as it was
 abbrev pub range_unchanged : List ℕ → Refusal → RangeLeft
 range_unchanged out e = record { answer = Err e; out = out }
+
+-- the refusal e of a step, with the cursor as it was
+abbrev pub step_unchanged : Cursor → Refusal → Stayed
+step_unchanged c e = record { cursor = c; refusal = e }

@@ -142,11 +142,8 @@ impl<'a> Player<'a> {
         ensures left { played_by self.new result ≡ unmoved (index_in self.old.index) self.old.out.now (after_step self.old.index.state self.old.cursor (step_rule (index_in self.old.index) self.old.cursor)) }
         ensures lent { SameLent self.new self.old }
     {
-        match compact_iterator::step(self.cursor, &self.index.reader()) {
-            Ok(Some((v, moved))) => {
-                self.cursor = moved;
-                Reply::from(v)
-            }
+        match compact_cursor::next(&mut self.cursor, &self.index.reader()) {
+            Ok(Some(v)) => Reply::from(v),
             Ok(None) => Reply::from((0, 1)),
             Err(e) => Reply::from(e),
         }

@@ -12,6 +12,7 @@ use Rattle.std.specs.declared.ops.Range.{Range}
 use Rattle.rules.specs.declared.State.{State}
 use Rattle.rules.specs.declared.Cursor.{Cursor}
 use Rattle.rules.specs.declared.Refusal.{Refusal}
+use Rattle.rules.specs.declared.Stayed.{Stayed}
 use Rattle.rules.specs.Words.{Answer, value, refused}
 use Rattle.rules.specs.Record.{Index, length_of, minimum_of, segments_of, widths_of, used_of, last_of, start, base, width, room_of, open_rule}
 use Rattle.rules.specs.Push.{push_rule, length_rule, size_rule}
@@ -40,7 +41,7 @@ use Rattle.promises.proofs.Reading.{get_decided, range_decided, iter_decided, ta
 use Rattle.promises.proofs.Push.{push_decided}
 use Rattle.promises.proofs.Steps.{step_decided}
 use Rattle.promises.proofs.Audited.{audit_decided, audit_counts}
-use Rattle.promises.specs.Outcomes.{One, PushLeft, push_says, push_unchanged, RangeLeft, range_says, range_unchanged}
+use Rattle.promises.specs.Outcomes.{One, PushLeft, push_says, push_unchanged, RangeLeft, range_says, range_unchanged, step_unchanged}
 use Rattle.promises.specs.Kept.{Appended, Does, Filled}
 use Rattle.promises.proofs.One.{one_answer, one_pushed, one_ranged, one_targeted, one_stepped, one_judged}
 use Rattle.promises.proofs.Stays as stays-laws
@@ -293,8 +294,8 @@ module _ (e : Refusal) where
   iter_refuses x a b = code.answer_refuses e (iter_exactly x a b)
 
   -- a step, with the cursor as it was
-  pub step_refuses : (x : Index) (c : Cursor) (r : Result (Option (ℕ × Cursor)) Refusal) → step_of c r ≡ step_rule x c
-      → (r ≡ Err e) ↔ ((c.next < c.end) × Given (get_table x c.next) (number_of e))
+  pub step_refuses : (x : Index) (c : Cursor) (r : Result (Option (ℕ × Cursor)) Stayed) → step_of r ≡ step_rule x c
+      → (r ≡ Err (step_unchanged c e)) ↔ ((c.next < c.end) × Given (get_table x c.next) (number_of e))
   step_refuses x c = code.step_refuses x c e
 
   -- target_range
@@ -330,8 +331,8 @@ pub one_iter : (x : Index) (a b : ℕ) → One answer_of (iter_rule x a b)
 one_iter x a b = one_answer (iter_rule x a b)
 
 -- a step: the answer with its cursor
-pub one_step : (x : Index) (c : Cursor) → One (step_of c) (step_rule x c)
-one_step x c = one_stepped c (step_rule x c)
+pub one_step : (x : Index) (c : Cursor) → One step_of (step_rule x c)
+one_step x c = one_stepped (step_rule x c)
 
 -- a delta run's count
 pub one_run_count : (bytes : List ℕ) (w : ℕ) → One answer_of (run_count_rule bytes w)
