@@ -8,7 +8,7 @@ ghost use Rattle.rules.specs.Refusals.{index_of};
 ghost use Rattle.audit_rules.specs.Letters.{rules_cto_f};
 
 use rules::{CompactReader, Flaw, Letter, Width};
-use tables::Counted;
+use tables::Segment;
 
 // The audit: counts (A) first with segment 0, then segments in order, rules B to F within each.
 #[tactic(auto, using(crate::proofs::Order::audit_counts, crate::proofs::Order::audit_start, crate::proofs::Order::audit_on, crate::proofs::Order::audit_stop, crate::proofs::Order::audit_end, laws::proofs::Counts::facts_counts))]
@@ -22,43 +22,44 @@ pub fn audit(x: &CompactReader<'_>) -> Result<(), Flaw>
         });
     };
     for k in 0..x.state.segments {
-        audit_segment(counted, k)?;
+        audit_segment(counted.segment(k))?;
     }
     Ok(())
 }
 
-// The first rule, B to F, that segment k breaks.
+// The first rule, B to F, that segment g breaks.
 #[tactic(auto, using(crate::proofs::Order::flaw_here, crate::proofs::Order::flaw_next, crate::proofs::Order::tests_tell), unfolding(rules::specs::Refusals::width_at))]
-fn audit_segment(x: Counted<'_>, k: u64) -> Result<(), Flaw>
-    requires { k < x.index.now.state.segments }
-    ensures { verdict_of result ≡ first_flaw k (rules_of (index_of x.entry.index.now) k) }
+fn audit_segment(g: Segment<'_>) -> Result<(), Flaw>
+    ensures { verdict_of result ≡ first_flaw g.entry.k (rules_of (index_of g.entry.counted.index.now) g.entry.k) }
 {
-    keeps(audit_rules::rule_b(x.index, k), Letter::B, k)?;
-    let d = audit_rules::deltas_of(x.index, k);
-    let Width::Of(w) = tables::width_of(x.index, k) else {
+    let index = g.counted.index;
+    let k = g.k;
+    keeps(audit_rules::rule_b(index, k), Letter::B, k)?;
+    let d = audit_rules::deltas_of(index, k);
+    let Width::Of(w) = g.width() else {
         return keeps(
-            audit_rules::rule_e_without_width(x.index, k, d),
+            audit_rules::rule_e_without_width(index, k, d),
             Letter::E,
             k,
         );
     };
-    audit_with_width(x, k, d, w as u64)
+    audit_with_width(g, d, w as u64)
 }
 
-// The first rule, C to F, that segment k breaks with its d deltas of width w.
+// The first rule, C to F, that segment g breaks with its d deltas of width w.
 #[tactic(auto, using(crate::proofs::Order::flaw_here, crate::proofs::Order::flaw_next, crate::proofs::Order::flaw_last, audit_rules::proofs::Letters::f_same, crate::proofs::Order::tests_tell, laws::proofs::Tests::taken, laws::proofs::Tests::left))]
-fn audit_with_width(x: Counted<'_>, k: u64, d: u64, w: u64) -> Result<(), Flaw>
-    requires { k < x.index.now.state.widths }
-    ensures { verdict_of result ≡ first_flaw k (rules_cto_f (index_of x.entry.index.now) k d w) }
+fn audit_with_width(g: Segment<'_>, d: u64, w: u64) -> Result<(), Flaw>
+    requires { g.k < g.counted.index.now.state.widths }
+    ensures { verdict_of result ≡ first_flaw g.entry.k (rules_cto_f (index_of g.entry.counted.index.now) g.entry.k d w) }
 {
-    let index = x.index;
+    let index = g.counted.index;
+    let k = g.k;
     keeps(audit_rules::rule_c(index.state.minimum, w), Letter::C, k)?;
     keeps(audit_rules::rule_d(index, k, w), Letter::D, k)?;
     keeps(audit_rules::rule_e(index, k, d, w), Letter::E, k)?;
-    let base = index.bases[k as usize];
     let offset = tables::mark(index, k);
     keeps(
-        audit_rules::rule_f(index.bytes, base, offset, d, w),
+        audit_rules::rule_f(index.bytes, g.base(), offset, d, w),
         Letter::F,
         k,
     )

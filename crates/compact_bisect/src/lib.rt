@@ -32,14 +32,12 @@ pub fn bisect_range_left(x: &CompactReader<'_>, range: &Range<u64>, v: u64) -> R
 fn bisect_counted(x: Counted<'_>, v: u64) -> Result<u64, Refusal>
     ensures { answer_of result ≡ bisect_rule (index_of x.entry.index.now) v }
 {
-    let index = x.index;
-    if index.state.length == 0 {
+    if x.index.state.length == 0 {
         return Ok(0);
     }
-    let in_use = &index.bases[..index.state.segments as usize];
-    let k = index_stream::bisect_right(in_use, v);
+    let k = index_stream::bisect_right(x.bases(), v);
     if k == 0 {
         return Ok(0);
     }
-    segment_bisect::bisect_in(x, k - 1, v)
+    segment_bisect::bisect_in(x.segment(k - 1), v)
 }

@@ -19,8 +19,7 @@ pub fn get_range(x: &CompactReader<'_>, range: &Range<u64>, out: &mut [u64]) -> 
     if (out.len() as u64) < count {
         return Err(Refusal::OutputRoom);
     }
-    let starts = &x.starts[..x.state.segments as usize];
-    let finder = Finder::new(starts, range);
+    let finder = Finder::new(c.starts(), range);
     if !range_reads::range_reads(c, &finder, range.start) {
         return Err(Refusal::Damaged);
     }

@@ -41,17 +41,16 @@ pub fn get(x: &CompactReader<'_>, p: u64) -> Result<u64, Refusal>
     if k == 0 {
         return Err(Refusal::Damaged);
     }
-    segment_reader::read_in(counted, k - 1, p)
+    segment_reader::read_in(counted.segment(k - 1), p)
 }
 
 // The number that halving over starts for p finds: of a sound index, the segments that start at p or before.
-#[tactic(auto, unfolding(rules::specs::Reading::starts_up_to))]
+#[tactic(auto, using(laws::proofs::InUse::halving_in_use, laws::proofs::Halving::halving_edge), unfolding(rules::specs::Reading::starts_up_to))]
 fn starts_up_to(x: Counted<'_>, p: u64) -> u64
     ensures found { result ≡ starts_up_to (index_of x.entry.index.now) p }
     ensures within { result ≤ x.entry.index.now.state.segments }
 {
-    let segments = x.index.state.segments as usize;
-    index_stream::bisect_right(&x.index.starts[..segments], p)
+    index_stream::bisect_right(x.starts(), p)
 }
 
 // The target of position p, where t is the end of the last one: from the value at p to the smaller of the next value and t.
@@ -68,10 +67,7 @@ fn target_end(x: &CompactReader<'_>, p: u64, t: u64) -> Result<u64, Refusal>
     ensures { answer_of result ≡ target_end (index_of x.now) p t }
 {
     let length = x.state.length;
-    if length < 2 {
-        return Ok(t);
-    }
-    if length - 2 < p {
+    if length < 2 || length - 2 < p {
         return Ok(t);
     }
     Ok(get(x, p + 1)?.min(t))

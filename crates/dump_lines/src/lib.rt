@@ -1,14 +1,14 @@
 // The lines that say how the input ended and what a segment is.
 #![tactic(auto)]
 
-ghost use Rattle.std.specs.Prelude.{◌≡◌, ◌<◌};
+ghost use Rattle.std.specs.Prelude.{◌≡◌};
 ghost use Rattle.rules.specs.Refusals.{index_of};
 ghost use Rattle.dump.specs.Feeding.{number_in};
 ghost use Rattle.dump_put.specs.Report.{end_line, segment_line};
 
 use dump::Feed;
 use dump_put::Line;
-use tables::Counted;
+use tables::Segment;
 
 // The line that says how the input ended: a refusal, or a tail of bytes that make no value; otherwise none.
 #[tactic(auto, unfolding(dump_put::specs::Report::end_line))]
@@ -28,19 +28,17 @@ pub fn end_line(fed: &Feed<'_>) -> Line
     Line::new()
 }
 
-// The line of segment k.
+// The line of segment g.
 #[tactic(auto, unfolding(dump_put::specs::Report::segment_line))]
-pub fn segment_line(x: Counted<'_>, k: u64) -> Line
-    requires { k < x.index.now.state.segments }
-    ensures { result.items ≡ segment_line (index_of x.entry.index.now) k }
+pub fn segment_line(g: Segment<'_>) -> Line
+    ensures { result.items ≡ segment_line (index_of g.entry.counted.index.now) g.entry.k }
 {
-    let i = k as usize;
     let mut line = Line::new();
-    dump_put::put_field(&mut line, b"segment ", k);
-    dump_put::put_field(&mut line, b" start ", x.index.starts[i]);
-    dump_put::put_field(&mut line, b" base ", x.index.bases[i]);
-    dump_put::put_field(&mut line, b" offset ", x.index.offsets[i]);
-    dump_put::put_width(&mut line, tables::width_of(x.index, k));
+    dump_put::put_field(&mut line, b"segment ", g.k);
+    dump_put::put_field(&mut line, b" start ", g.start());
+    dump_put::put_field(&mut line, b" base ", g.base());
+    dump_put::put_field(&mut line, b" offset ", g.offset());
+    dump_put::put_width(&mut line, g.width());
     dump_put::put(&mut line, b"\n");
     line
 }

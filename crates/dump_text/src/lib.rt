@@ -23,7 +23,7 @@ pub fn line(fed: &Feed<'_>, i: u64) -> Line
         1 => dump_put::number_line(b"length ", s.length),
         2 => dump_put::number_line(b"segments ", s.segments),
         3 => dump_put::number_line(b"bytes ", 24 * s.segments + s.widths + s.used),
-        _ if i - 4 < s.segments => dump_lines::segment_line(counted, i - 4),
+        _ if i - 4 < s.segments => dump_lines::segment_line(counted.segment(i - 4)),
         _ => Line::new(),
     }
 }

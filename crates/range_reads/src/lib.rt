@@ -1,14 +1,15 @@
 // Whether each position of a range gives a value.
 #![tactic(auto)]
 
-ghost use Rattle.std.specs.Prelude.{◌≡◌, true, ◌-◌, ◌≤◌, ◌<◌, get_or, take};
+ghost use Rattle.std.specs.Prelude.{◌≡◌, true, ◌-◌, ◌≤◌, ◌<◌, take};
+ghost use Rattle.rules.specs.Record.{start};
 ghost use Rattle.rules.specs.Reading.{reads};
 ghost use Rattle.rules.specs.Refusals.{index_of};
 ghost use Rattle.range_reads.specs.Values.{is_value, Sure, Run};
 
 use range_find::Finder;
 use rules::Width;
-use tables::Counted;
+use tables::{Counted, Segment};
 
 // Whether each position from a up to the finder's limit gives a value.
 pub fn range_reads(x: Counted<'_>, finder: &Finder<'_>, a: u64) -> bool
@@ -29,13 +30,13 @@ pub fn range_reads(x: Counted<'_>, finder: &Finder<'_>, a: u64) -> bool
         if number == 0 {
             break 'segments false;
         }
-        let k = number - 1;
-        p = sure_until(x, k, p, until);
+        let g = x.segment(number - 1);
+        p = sure_until(g, p, until);
         'deltas: loop {
             if until <= p {
                 break 'deltas;
             }
-            let Ok(_) = segment_reader::read_in(x, k, p) else {
+            let Ok(_) = segment_reader::read_in(g, p) else {
                 break 'segments false;
             };
             p += 1;
@@ -43,25 +44,22 @@ pub fn range_reads(x: Counted<'_>, finder: &Finder<'_>, a: u64) -> bool
     }
 }
 
-// How far from p on every read in segment k is sure to give a value, whatever its deltas are: to p itself, or to `until`.
-fn sure_until(x: Counted<'_>, k: u64, p: u64, until: u64) -> u64
-    requires segment { k < x.index.now.state.segments }
-    requires after { get_or x.index.now.starts.now k 0 ≤ p }
+// How far from p on every read in segment g is sure to give a value, whatever its deltas are: to p itself, or to `until`.
+fn sure_until(g: Segment<'_>, p: u64, until: u64) -> u64
+    requires after { start (index_of g.counted.index.now) g.k ≤ p }
     requires some { p < until }
-    ensures { Sure (index_of x.entry.index.now) k p until result }
+    ensures { Sure (index_of g.entry.counted.index.now) g.entry.k p until result }
 {
-    let index = x.index;
+    let index = g.counted.index;
     let used = index.state.used;
-    let start = index.starts[k as usize];
-    let base = index.bases[k as usize];
-    let offset = index.offsets[k as usize];
-    let Width::Of(w) = tables::width_of(index, k) else {
+    let offset = g.offset();
+    let Width::Of(w) = g.width() else {
         return p;
     };
     let width = w as u64;
     if index.state.minimum <= width && width <= 8 && offset <= used {
         let bytes = &index.bytes[offset as usize..used as usize];
-        if run_sure(bytes, base, width, until - start - 1) {
+        if run_sure(bytes, g.base(), width, until - g.start() - 1) {
             return until;
         }
     }

@@ -1,7 +1,8 @@
 // Puts the values of a range, each of which the tables give, into the output.
 #![tactic(auto)]
 
-ghost use Rattle.std.specs.Prelude.{◌≡◌, true, ◌+◌, ◌-◌, ◌≤◌, ◌<◌, ◌^◌, length, get_or, take};
+ghost use Rattle.std.specs.Prelude.{◌≡◌, true, ◌+◌, ◌-◌, ◌≤◌, ◌<◌, ◌^◌, length, take};
+ghost use Rattle.rules.specs.Record.{start, base};
 ghost use Rattle.rules.specs.Reading.{reads};
 ghost use Rattle.rules.specs.Refusals.{index_of};
 ghost use Rattle.range_reads.specs.Values.{is_value, ValuesIn, Run};
@@ -9,7 +10,7 @@ ghost use Rattle.range_write.specs.Puts.{sums, in_segment, gets, puts, Based};
 
 use range_find::Finder;
 use rules::Width;
-use tables::Counted;
+use tables::{Counted, Segment};
 
 // Puts the values from a up to the finder's limit, each of which the tables give, into the output from its first entry on.
 pub fn range_write(x: Counted<'_>, finder: &Finder<'_>, a: u64, out: &mut [u64])
@@ -29,35 +30,30 @@ pub fn range_write(x: Counted<'_>, finder: &Finder<'_>, a: u64, out: &mut [u64])
         let found = finder.find(number, p);
         number = found.number;
         let until = found.until;
-        fill_segment(
-            x,
-            number - 1,
-            p,
-            &mut out[(p - a) as usize..(until - a) as usize],
-        );
+        let g = x.segment(number - 1);
+        fill_segment(g, p, &mut out[(p - a) as usize..(until - a) as usize]);
         p = until;
     }
 }
 
-// Fills the output with the values from p on, all of segment k.
-fn fill_segment(x: Counted<'_>, k: u64, p: u64, out: &mut [u64])
-    requires segment { k < x.index.now.state.segments }
-    requires after { get_or x.index.now.starts.now k 0 ≤ p }
+// Fills the output with the values from p on, all of segment g.
+fn fill_segment(g: Segment<'_>, p: u64, out: &mut [u64])
+    requires after { start (index_of g.counted.index.now) g.k ≤ p }
     requires some { 0 < length out.old }
     requires fits { p + length out.old < 2 ^ 64 }
-    requires values { ValuesIn (index_of x.index.now) k p (p + length out.old) }
-    ensures { out.new ≡ puts (in_segment (index_of x.entry.index.now) k p) 0 (length out.old) out.old }
+    requires values { ValuesIn (index_of g.counted.index.now) g.k p (p + length out.old) }
+    ensures { out.new ≡ puts (in_segment (index_of g.entry.counted.index.now) g.entry.k p) 0 (length out.old) out.old }
 {
-    let index = x.index;
-    let start = index.starts[k as usize];
-    let base = index.bases[k as usize];
-    let offset = index.offsets[k as usize];
-    let q = put_base(start, base, p, out);
+    let index = g.counted.index;
+    let start = g.start();
+    let base = g.base();
+    let offset = g.offset();
+    let q = put_base(g, p, out);
     let filled = (q - p) as usize;
     if out.len() <= filled {
         return;
     }
-    let Width::Of(w) = tables::width_of(index, k) else {
+    let Width::Of(w) = g.width() else {
         return;
     };
     let width = w as u64;
@@ -67,13 +63,13 @@ fn fill_segment(x: Counted<'_>, k: u64, p: u64, out: &mut [u64])
 }
 
 // Puts the base into the first entry where p is its position, and answers the next position to fill.
-fn put_base(start: u64, base: u64, p: u64, out: &mut [u64]) -> u64
+fn put_base(g: Segment<'_>, p: u64, out: &mut [u64]) -> u64
     requires some { 0 < length out.old }
     requires fits { p + 1 < 2 ^ 64 }
-    ensures { Based start base p result out.old out.new }
+    ensures { let x = index_of g.entry.counted.index.now in let k = g.entry.k in Based (start x k) (base x k) p result out.old out.new }
 {
-    if p == start {
-        out[0] = base;
+    if p == g.start() {
+        out[0] = g.base();
         return p + 1;
     }
     p

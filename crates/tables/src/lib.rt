@@ -9,8 +9,10 @@ ghost use Rattle.rules.specs.Refusals.{index_of, width_at};
 ghost use Rattle.tables.specs.Counting.{counted_of};
 
 mod counts;
+mod segments;
 
 pub use counts::Counted;
+pub use segments::Segment;
 use rules::{CompactReader, Refusal, State, Width};
 use std::ops::Range;
 

@@ -14,14 +14,14 @@ use Rattle.audit.proofs.audit_segment.Goals as goal
 pub returns-in_default : goal.returns-in_default
 returns-in_default c =
     let a = c.args in
-    let x = index_of a.x.index.now in
-    let h = ltb-false a.k a.x.index.now.state.widths (width_absent _ _ _ (sym c.width_of.ensures ∙ c.in_default.is)) in
-    let last = ap (λ (b : Bool). when b well_formed (flaw E a.k)) (c.rule_e_without_width.ensures (width x a.k)) in
-    c.keeps-in_default.ensures.flaw ∙ last ∙ sym (without x a.k _ _ h (omega (arith, c.requires)))
-    ∙ past_b x a.k _ _ (sym c.rule_b.ensures ∙ c.in_ok-keeps.ensures.kept) c.deltas_of-d.ensures refl
+    let x = index_of a.g.counted.index.now in
+    let h = ltb-false a.g.k a.g.counted.index.now.state.widths (width_absent _ _ _ (sym c.width.ensures ∙ c.in_default.is)) in
+    let last = ap (λ (b : Bool). when b well_formed (flaw E a.g.k)) (c.rule_e_without_width.ensures (width x a.g.k)) in
+    c.keeps-in_default.ensures.flaw ∙ last ∙ sym (without x a.g.k _ _ h (omega arith))
+    ∙ past_b x a.g.k _ _ (sym c.rule_b.ensures ∙ c.in_ok-keeps.ensures.kept) c.deltas_of-d.ensures refl
 
 pub returns : goal.returns
 returns c =
     let a = c.args in
-    let w = width_there _ _ _ _ (sym c.width_of.ensures ∙ c.in-Of.is) in
-    c.audit_with_width.ensures ∙ past_b (index_of a.x.index.now) a.k _ _ (sym c.rule_b.ensures ∙ c.in_ok-keeps.ensures.kept) c.deltas_of-d.ensures (sym w.1)
+    let w = width_there _ _ _ _ (sym c.width.ensures ∙ c.in-Of.is) in
+    c.audit_with_width.ensures ∙ past_b (index_of a.g.counted.index.now) a.g.k _ _ (sym c.rule_b.ensures ∙ c.in_ok-keeps.ensures.kept) c.deltas_of-d.ensures (sym w.1)

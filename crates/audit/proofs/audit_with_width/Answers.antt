@@ -15,10 +15,10 @@ use Rattle.audit.proofs.audit_with_width.Goals as goal
 pub returns : goal.returns
 returns c =
     let a = c.args in
-    let x = index_of a.x.index.now in
-    let fits = facts_of (width_tests a.x.index.now.state.minimum a.w) (sym c.rule_c.ensures ∙ c.in_ok-keeps.ensures.kept) in
-    let kept = taken (rule_c x a.k a.w) true false (omega arith) in
-    let last = ap (λ (b : Bool). when b well_formed (flaw F a.k)) ((rw c.mark-offset.ensures at c.rule_f.ensures) ∙ f_same _ _ _ _ _ _ _ c.requires) in
+    let x = index_of a.g.counted.index.now in
+    let fits = facts_of (width_tests a.g.counted.index.now.state.minimum a.w) (sym c.rule_c.ensures ∙ c.in_ok-keeps.ensures.kept) in
+    let kept = taken (rule_c x a.g.k a.w) true false (omega arith) in
+    let last = ap (λ (b : Bool). when b well_formed (flaw F a.g.k)) ((rw (c.base.ensures, c.mark-offset.ensures) at c.rule_f.ensures) ∙ f_same _ _ _ _ _ _ _ c.requires) in
     c.keeps-4.ensures.flaw
     ∙ sym
     (flaw_next _ _ _ kept ∙ flaw_next _ _ _ (sym c.rule_d.ensures ∙ c.in_ok-keeps-2.ensures.kept)

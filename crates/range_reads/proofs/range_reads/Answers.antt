@@ -12,25 +12,26 @@ use Rattle.range_reads.proofs.range_reads.Goals.{Else-number-eq0}
 segment : (c : Else-number-eq0) → Segment (index_of c.args.x.index.now) c.segments.p c.find-found.result.until (c.find-found.result.number - 1)
 segment c = some_found (index_of c.args.x.index.now) c.args.x.counts _ c.requires.in_use c.segments.p _ _ c.find-found.ensures c.requires.within c.if-number-eq0.false
 
-pub sure_until-p-requires-clause-segment : goal.sure_until-p-requires-clause-segment
-sure_until-p-requires-clause-segment c = (segment (goal.at.sure_until-p-requires-clause-segment c).Else-number-eq0).there
+pub segment-g-requires : goal.segment-g-requires
+segment-g-requires c = (segment (goal.at.segment-g-requires c).Else-number-eq0).there
 
 pub sure_until-p-requires-clause-after : goal.sure_until-p-requires-clause-after
-sure_until-p-requires-clause-after c = (segment c).begins
+sure_until-p-requires-clause-after c =
+    let e = c.segment-g.ensures in
+    rw (e.of, e.number) ((segment (goal.at.sure_until-p-requires-clause-after c).Else-number-eq0).begins)
 
 pub deltas-init : goal.deltas-init
 deltas-init c =
-    let g = c.sure_until-p.ensures in
+    let e = c.segment-g.ensures in
+    let g = rw (e.of, e.number) at c.sure_until-p.ensures in
     record { within = g.to; from = omega arith; good = values_on _ _ _ _ (segment (goal.at.deltas-init c).Else-number-eq0) _ _ g c.segments.invariant.good }
-
-pub read_in-requires : goal.read_in-requires
-read_in-requires c = (segment (goal.at.read_in-requires c).Else-number-eq0).there
 
 pub deltas-preserved : goal.deltas-preserved
 deltas-preserved c =
+    let e = c.segment-g.ensures in
     let i = c.deltas.invariant in
     let g = (segment (goal.at.deltas-preserved c).Else-number-eq0).gets c.deltas.p (omega (arith, c.sure_until-p.ensures.from)) c.if-until-p.false in
-    record { within = omega arith; from = omega arith; good = values_more _ _ _ i.good (ap is_value (g ∙ sym c.in-Ok.ensures)) }
+    record { within = omega arith; from = omega arith; good = values_more _ _ _ i.good (ap is_value (g ∙ sym (rw (e.of, e.number) at c.in-Ok.ensures))) }
 
 pub returns-then-finder-p : goal.returns-then-finder-p
 returns-then-finder-p c =
@@ -45,7 +46,8 @@ returns-then-number-eq0 c =
 
 pub returns-in_default : goal.returns-in_default
 returns-in_default c =
+    let e = c.segment-g.ensures in
     let i = c.segments.invariant in
     let w = c.find-found.ensures.within in
     let g = (segment (goal.at.returns-in_default c).Else-number-eq0).gets c.deltas.p (omega (arith, c.sure_until-p.ensures.from)) c.if-until-p.false in
-    sym (reads_bad _ _ _ c.deltas.p (omega (arith, c.sure_until-p.ensures.from)) (omega arith) (ap is_value (g ∙ sym c.in_default.ensures)))
+    sym (reads_bad _ _ _ c.deltas.p (omega (arith, c.sure_until-p.ensures.from)) (omega arith) (ap is_value (g ∙ sym (rw (e.of, e.number) at c.in_default.ensures))))

@@ -28,11 +28,13 @@ segments-init c =
 pub overflow_sub-number : goal.overflow_sub-number
 overflow_sub-number c = (found (goal.at.overflow_sub-number c).After-find-found).2
 
-pub fill_segment-requires-clause-segment : goal.fill_segment-requires-clause-segment
-fill_segment-requires-clause-segment c = (found (goal.at.fill_segment-requires-clause-segment c).After-find-found).0.there
+pub segment-g-requires : goal.segment-g-requires
+segment-g-requires c = (found (goal.at.segment-g-requires c).After-find-found).0.there
 
 pub fill_segment-requires-clause-after : goal.fill_segment-requires-clause-after
-fill_segment-requires-clause-after c = (found (goal.at.fill_segment-requires-clause-after c).After-find-found).0.begins
+fill_segment-requires-clause-after c =
+    let e = c.segment-g.ensures in
+    rw (e.of, e.number) ((found (goal.at.fill_segment-requires-clause-after c).After-find-found).0.begins)
 
 pub fill_segment-requires-clause-values : goal.fill_segment-requires-clause-values
 fill_segment-requires-clause-values c =
@@ -43,7 +45,8 @@ fill_segment-requires-clause-values c =
     let from = c.segments.invariant.from in
     let d = c.segments.p - c.args.a in
     let e = part_length d (c.find-found.result.until - c.args.a - d) c.segments.out (omega arith) in
-    (found (goal.at.fill_segment-requires-clause-values c).After-find-found).1 q l (omega arith)
+    let g = c.segment-g.ensures in
+    rw (g.of, g.number) ((found (goal.at.fill_segment-requires-clause-values c).After-find-found).1 q l (omega arith))
 
 pub segments-preserved : goal.segments-preserved
 segments-preserved c =
@@ -62,5 +65,5 @@ segments-preserved c =
       put = puts_part (gets x a.a) _ (p - a.a) _ _ a.out.now _ _ (omega arith) (omega arith)
           (λ j h. let e : p + j ≡ a.a + (p - a.a + j) = omega arith in
           ap value_of (sym (s.gets (p + j) (omega arith) (omega arith))) ∙ ap (λ (n : ℕ). value_of (get_rule x n)) e)
-          c.segments.invariant.put c.fill_segment.ensures;
+          c.segments.invariant.put (let g = c.segment-g.ensures in rw (g.of, g.number) at c.fill_segment.ensures);
     }
