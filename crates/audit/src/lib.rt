@@ -37,11 +37,7 @@ fn audit_segment(g: Segment<'_>) -> Result<(), Flaw>
     keeps(audit_rules::rule_b(index, k), Letter::B, k)?;
     let d = audit_rules::deltas_of(index, k);
     let Width::Of(w) = g.width() else {
-        return keeps(
-            audit_rules::rule_e_without_width(index, k, d),
-            Letter::E,
-            k,
-        );
+        return keeps(audit_rules::rule_e_without_width(index, k, d), Letter::E, k);
     };
     audit_with_width(g, d, w as u64)
 }

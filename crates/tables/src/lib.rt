@@ -12,8 +12,8 @@ mod counts;
 mod segments;
 
 pub use counts::Counted;
-pub use segments::Segment;
 use rules::{CompactReader, Refusal, State, Width};
+pub use segments::Segment;
 use std::ops::Range;
 
 // The index, if it keeps the counts rule.
