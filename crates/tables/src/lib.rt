@@ -48,6 +48,7 @@ pub fn counts_hold(x: &CompactReader<'_>) -> bool
 }
 
 // Whether the five numbers keep the counts rule by themselves.
+#[tactic(auto, using(laws::proofs::Tests::left))]
 pub fn state_holds(s: State) -> bool
     ensures { result ≡ when_all (state_tests s) true false }
 {
@@ -78,6 +79,7 @@ pub fn state_holds(s: State) -> bool
 }
 
 // Whether the five tables have the entries that the state counts.
+#[tactic(auto, using(laws::proofs::Tests::left))]
 fn room_holds(x: &CompactReader<'_>) -> bool
     ensures { result ≡ when_all (room_tests x.now.state (room_of (index_of x.now))) true false }
 {

@@ -1,9 +1,8 @@
 -- Each early return refutes one test; the last line is the last test.
 use native.Mathlib.Omega.{arith}
-use mathlib.Core.Path.{sym}
 use lib.ListN.{length}
 use borrow.Author.Tests.{leb-true, le-leb}
-use Rattle.laws.proofs.Tests.{same_test, taken, left, facts_of}
+use Rattle.laws.proofs.Tests.{same_test, taken, facts_of}
 use Rattle.tables.proofs.room_holds.Goals as goal
 
 pub returns : goal.returns
@@ -12,15 +11,3 @@ returns c =
     same_test _ _
     (λ t. let u = leb-true x.state.used (length x.bytes.now) t in taken _ _ _ (omega arith))
     (λ t. let f = facts_of _ t in le-leb x.state.used (length x.bytes.now) (omega arith))
-
-pub returns-then-x-s : goal.returns-then-x-s
-returns-then-x-s c = sym (left _ _ _ (λ f. omega arith))
-
-pub returns-then-x-s-2 : goal.returns-then-x-s-2
-returns-then-x-s-2 c = sym (left _ _ _ (λ f. omega arith))
-
-pub returns-then-x-s-3 : goal.returns-then-x-s-3
-returns-then-x-s-3 c = sym (left _ _ _ (λ f. omega arith))
-
-pub returns-then-x-s-4 : goal.returns-then-x-s-4
-returns-then-x-s-4 c = sym (left _ _ _ (λ f. omega arith))

@@ -2,16 +2,12 @@
 use native.Mathlib.Omega.{arith}
 use Prim.Native.Nat.{◌+◌, ◌-◌}
 use mathlib.Core.Bool.{◌&&◌}
-use mathlib.Core.Path.{sym}
 use lib.Dec.{eqb, leb}
 use borrow.Author.Tests.{eqb-true, eq-eqb, leb-true, le-leb}
 use Rattle.rules.specs.Record.{state_tests}
-use Rattle.laws.proofs.Tests.{same_test, both, taken, left, facts_of}
+use Rattle.laws.proofs.Tests.{same_test, both, taken, facts_of}
 use Rattle.laws.proofs.Counts.{state_orders_lem}
 use Rattle.tables.proofs.state_holds.Goals as goal
-
-pub returns-then-minimum-lt1 : goal.returns-then-minimum-lt1
-returns-then-minimum-lt1 c = sym (left _ _ _ (λ f. omega arith))
 
 pub returns-then-segments-eq0 : goal.returns-then-segments-eq0
 returns-then-segments-eq0 c =
@@ -40,12 +36,3 @@ returns c =
     (λ t.
     let o = state_orders_lem s (facts_of (state_tests s) t) in
     rw (le-leb (s.segments - 1) s.widths (omega arith), le-leb s.widths s.segments (omega arith), le-leb s.segments s.length (omega arith), le-leb s.length (s.segments + s.used) (omega arith)))
-
-pub returns-then-minimum-gt8 : goal.returns-then-minimum-gt8
-returns-then-minimum-gt8 c = sym (left _ _ _ (λ f. omega arith))
-
-pub returns-then-segments-gt-SEGMENT_LIMIT : goal.returns-then-segments-gt-SEGMENT_LIMIT
-returns-then-segments-gt-SEGMENT_LIMIT c = sym (left _ _ _ (λ f. omega arith))
-
-pub returns-then-used-gt-DATA_LIMIT : goal.returns-then-used-gt-DATA_LIMIT
-returns-then-used-gt-DATA_LIMIT c = sym (left _ _ _ (λ f. omega arith))
