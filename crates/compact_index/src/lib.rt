@@ -12,10 +12,7 @@ use rules::{Refusal, State};
 pub fn compact_index(minimum: u64) -> Result<State, Refusal>
     ensures { answer_of result ≡ open_rule minimum }
 {
-    if minimum < 1 {
-        return Err(Refusal::Minimum);
-    }
-    if 8 < minimum {
+    if minimum < 1 || 8 < minimum {
         return Err(Refusal::Minimum);
     }
     Ok(fresh(minimum))

@@ -39,10 +39,7 @@ impl<'a> DeltaRun<'a> {
 pub fn count_of(bytes: &[u8], width: u64) -> Result<u64, Refusal>
     ensures { answer_of result ≡ run_count_rule bytes.now width }
 {
-    if width < 1 {
-        return Err(Refusal::Damaged);
-    }
-    if 8 < width {
+    if width < 1 || 8 < width {
         return Err(Refusal::Damaged);
     }
     Ok(bytes.len() as u64 / width)

@@ -46,16 +46,11 @@ fn plan_segment(x: Counted<'_>) -> Result<Plan, Refusal>
 {
     let x = x.index;
     let segments = x.state.segments;
-    if rules::SEGMENT_LIMIT <= segments {
-        return Err(Refusal::SegmentRoom);
-    }
-    if x.starts.len() as u64 <= segments {
-        return Err(Refusal::SegmentRoom);
-    }
-    if x.bases.len() as u64 <= segments {
-        return Err(Refusal::SegmentRoom);
-    }
-    if x.offsets.len() as u64 <= segments {
+    if rules::SEGMENT_LIMIT <= segments
+        || x.starts.len() as u64 <= segments
+        || x.bases.len() as u64 <= segments
+        || x.offsets.len() as u64 <= segments
+    {
         return Err(Refusal::SegmentRoom);
     }
     Ok(Plan::Segment)
@@ -86,10 +81,7 @@ fn plan_next(x: Counted<'_>, base: u64, width: u64, v: u64) -> Result<Plan, Refu
     ensures { let i = index_of x.entry.index.now in planned result ≡ next_plan i.state (room_of i) base width v }
 {
     let minimum = x.index.state.minimum;
-    if width < minimum {
-        return Err(Refusal::Damaged);
-    }
-    if 8 < width {
+    if width < minimum || 8 < width {
         return Err(Refusal::Damaged);
     }
     if v < base {
