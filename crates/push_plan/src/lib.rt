@@ -1,4 +1,4 @@
-// The plan of a push: what it is to do, made of numbers alone, before anything is written.
+// The plan of a push: what it is to do, before anything is written.
 #![tactic(auto)]
 
 ghost use Rattle.std.specs.Prelude.{◌≡◌, true, false, ◌≤◌};
@@ -31,9 +31,9 @@ pub fn plan_push(x: &CompactReader<'_>, v: u64) -> Result<Plan, Refusal>
     if x.state.segments == 0 {
         return plan_segment(c);
     }
-    let last = x.state.segments - 1;
-    let base = x.bases[last as usize];
-    let Width::Of(width) = tables::width_of(x, last) else {
+    let last = c.segment(x.state.segments - 1);
+    let base = last.base();
+    let Width::Of(width) = last.width() else {
         return plan_first(c, base, v);
     };
     plan_next(c, base, width as u64, v)
