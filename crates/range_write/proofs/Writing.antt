@@ -124,8 +124,8 @@ module _ (x : Index) (k : ℕ) where
     pub least : minimum_of x ≤ w
     pub most : w ≤ 8
     pub from : place q w ≤ used_of x
-    pub run : Run (between (place q w) (used_of x) x.bytes) (base x k) w n
-    pub same : (j : ℕ) → j < n → sums (between (place q w) (used_of x) x.bytes) (base x k) w j ≡ value_of (read_in x k (q + j))
+    pub run : Run (between (place q w) (length x.bytes) x.bytes) (base x k) w n
+    pub same : (j : ℕ) → j < n → sums (between (place q w) (length x.bytes) x.bytes) (base x k) w j ≡ value_of (read_in x k (q + j))
 
   -- reads that are all values are such deltas
   pub run_of : (w q n : ℕ) → width x k ≡ w → used_of x ≤ length x.bytes → ValuesIn x k q (q + n) → start x k < q → 0 < n → RunOf w q n
@@ -134,9 +134,9 @@ module _ (x : Index) (k : ℕ) where
       let d : (j : ℕ) → j < n → DeltaOf (q + j) = λ j i. read_delta (q + j) (omega arith) (good (q + j) (omega arith) (omega arith)) in
       let moved = λ (j : ℕ). delta_place (offset x k) (start x k) q j w l in
       let ends : (j : ℕ) → j < n → place q w + j * w + w ≤ used_of x = λ j i. rw (moved j) (d j i).ends in
-      let long = length-between x.bytes (place q w) (used_of x) room in
-      let at : (j : ℕ) → j < n → delta_at (between (place q w) (used_of x) x.bytes) (j * w) w ≡ delta_at x.bytes (place (q + j) w) w =
-      λ j i. delta_between x.bytes (place q w) (used_of x) (j * w) w (ends j i) ∙ ap (λ (o : ℕ). delta_at x.bytes o w) (moved j) in
+      let long = length-between x.bytes (place q w) (length x.bytes) (omega arith) in
+      let at : (j : ℕ) → j < n → delta_at (between (place q w) (length x.bytes) x.bytes) (j * w) w ≡ delta_at x.bytes (place (q + j) w) w =
+      λ j i. delta_between x.bytes (place q w) (length x.bytes) (j * w) w (omega (arith, ends j i)) ∙ ap (λ (o : ℕ). delta_at x.bytes o w) (moved j) in
       rw (← c) (record {
         has = (d 0 some).has;
         least = (d 0 some).least;

@@ -49,8 +49,8 @@ fn fill_segment(g: Segment<'_>, p: u64, out: &mut [u64])
     let base = g.base();
     let offset = g.offset();
     let q = put_base(g, p, out);
-    let filled = (q - p) as usize;
-    if out.len() <= filled {
+    let filled = q - p;
+    if out.len() as u64 <= filled {
         return;
     }
     let Width::Of(w) = g.width() else {
@@ -58,8 +58,8 @@ fn fill_segment(g: Segment<'_>, p: u64, out: &mut [u64])
     };
     let width = w as u64;
     let at = offset + (q - start - 1) * width;
-    let bytes = &index.bytes[at as usize..index.state.used as usize];
-    fill_deltas(bytes, base, width, &mut out[filled..]);
+    let bytes = &index.bytes[at as usize..];
+    fill_deltas(bytes, base, width, &mut out[filled as usize..]);
 }
 
 // Puts the base into the first entry where p is its position, and answers the next position to fill.

@@ -44,10 +44,10 @@ pub overflow_add-at : goal.overflow_add-at
 overflow_add-at c = omega (arith, begins (goal.at.overflow_add-at c).In-Of, c.args.g.counted.counts)
 
 pub slice_bounds-bytes-count : goal.slice_bounds-bytes-count
-slice_bounds-bytes-count c = begins (goal.at.slice_bounds-bytes-count c).In-Of
+slice_bounds-bytes-count c = omega (arith, begins (goal.at.slice_bounds-bytes-count c).In-Of, c.args.g.counted.counts)
 
 pub slice_bounds-bytes-start : goal.slice_bounds-bytes-start
-slice_bounds-bytes-start c = begins (goal.at.slice_bounds-bytes-start c).In-Of
+slice_bounds-bytes-start c = omega (arith, begins (goal.at.slice_bounds-bytes-start c).In-Of, c.args.g.counted.counts)
 
 pub fill_deltas-requires-clause-some : goal.fill_deltas-requires-clause-some
 fill_deltas-requires-clause-some c = let least = (deltas (goal.at.fill_deltas-requires-clause-some c).In-Of).1.least in omega (arith, c.args.g.counted.counts)
