@@ -41,11 +41,10 @@ pub fn delta_at(bytes: &[u8], at: u64, width: u64) -> u64
     ensures { result ≡ delta_at bytes.now at width }
 {
     let cut = 64 - 8 * width;
-    let from = at as usize;
-    if from + 8 <= bytes.len() {
-        return load(&bytes[from..from + 8]) << cut >> cut;
+    if at + 8 <= bytes.len() as u64 {
+        return load(&bytes[at as usize..at as usize + 8]) << cut >> cut;
     }
-    load(&bytes[from..]) << cut >> cut
+    load(&bytes[at as usize..]) << cut >> cut
 }
 
 // The number that at most eight bytes make, least significant first.

@@ -5,8 +5,8 @@ use lib.ListN.{length}
 use Rattle.delta.proofs.Loading.{cut_part}
 use Rattle.delta.proofs.delta_at.Goals as goal
 
-pub returns-then-from-bytes : goal.returns-then-from-bytes
-returns-then-from-bytes c =
+pub returns-then-at-bytes : goal.returns-then-at-bytes
+returns-then-at-bytes c =
     let a = c.args in
     cut_part a.width (omega arith) (omega arith) a.bytes.now a.at (a.at + 8 - a.at) (omega arith) (omega arith) (λ i l. omega (arith, c.type_inv.bytes i)) c.load.result c.load.ensures
 
