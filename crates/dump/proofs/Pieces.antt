@@ -1,20 +1,21 @@
 -- Where the input is cut does not matter, and eight bytes are a little-endian value.
 use Prim.Native.Nat.{ℕ, suc, ◌+◌, ◌*◌, ◌<◌, ◌≤◌}
 use mathlib.Core.List.{List, [], ◌∷◌, ◌++◌}
-use mathlib.Core.Path.{◌≡◌, refl, ap}
+use mathlib.Core.Path.{◌≡◌, refl, sym, ap}
 use native.Mathlib.Omega.{arith}
 use lib.ListN.{length, get_or, drop, drop_of_length-le}
 use lib.Seq.{drop-cons}
 use Rattle.std.specs.declared.result.Result.{Result}
 use Rattle.std.specs.declared.option.Option.{Option}
-use Rattle.std.specs.Prelude.{Ok, Err, Some, None, false, not, eqb}
+use Rattle.std.specs.Prelude.{Some, None, not, eqb, MatchOption}
 use Rattle.std.specs.Option.{is_some}
-use Rattle.std.specs.Result.{result_err}
+use Rattle.std.specs.declared.num.NonZeroU64.{NonZeroU64}
+use Rattle.std.specs.NonZero.{non_zero_u64_get}
+use borrow.Author.Tests.{ne_eqb}
 use Rattle.rules.specs.declared.Refusal.{Refusal}
-use Rattle.rules.specs.declared.Refusal.TheVariants.{Below, SegmentRoom, WidthRoom, DataRoom, Position, RangeEnd, Reversed, OutputRoom, Counts, Damaged, Minimum}
 use Rattle.rules.specs.Record.{Index}
 use Rattle.rules.specs.Push.{Outcome, outcome, delta_at}
-use Rattle.rules.specs.Refusals.{number_of, answer_of}
+use Rattle.rules.specs.Refusals.{answer_of}
 use Rattle.dump.specs.Feeding.{Fed, fed, number_in, with_byte, refusal_of, value_rule, byte_rule, feed_rule}
 
 -- feeding two pieces is feeding them as one
@@ -36,29 +37,19 @@ pub value_fed : (x : Index) (a b c d e f g h : ℕ) (rest : List ℕ)
 unfolding feed_rule byte_rule delta_at
 value_fed x a b c d e f g h rest = ap (λ v. feed_rule (value_rule x v) rest) (eight_bytes a b c d e f g h)
 
--- a refusal's number is above 0
-above_zero : (e : Refusal) → eqb (number_of e) 0 ≡ false
-above_zero Below = refl
-above_zero SegmentRoom = refl
-above_zero WidthRoom = refl
-above_zero DataRoom = refl
-above_zero Position = refl
-above_zero RangeEnd = refl
-above_zero Reversed = refl
-above_zero OutputRoom = refl
-above_zero Counts = refl
-above_zero Damaged = refl
-above_zero Minimum = refl
-
 -- the number is 0 where no refusal is kept
-pub kept : (o : Option Refusal) → eqb (number_in o) 0 ≡ not (is_some o)
+pub kept : (o : Option NonZeroU64) → eqb (number_in o) 0 ≡ not (is_some o)
 kept None = refl
-kept (Some e) = above_zero e
+kept (Some n) = ne_eqb n.value 0 (λ z. absurd (omega (arith, n.ok)))
+
+-- a number as it is kept
+pub numbered : (n : ℕ) (o : Option NonZeroU64) → MatchOption o (n ≡ 0) (λ x. non_zero_u64_get x ≡ n) → number_in o ≡ n
+numbered n None h = sym h
+numbered n (Some x) h = h
 
 -- what the code carries after a push is what the rule carries
-pub pushed : (r : Result ℕ Refusal) (x : Index) (o : Outcome) → outcome (answer_of r) x ≡ o → fed x 0 0 (number_in (result_err r)) ≡ fed o.left 0 0 (refusal_of o.answer)
-pushed (Ok p) x o e = rw (← e)
-pushed (Err n) x o e = rw (← e)
+pub pushed : (r : Result ℕ Refusal) (x : Index) (o : Outcome) (n : ℕ) → outcome (answer_of r) x ≡ o → n ≡ refusal_of (answer_of r) → fed x 0 0 n ≡ fed o.left 0 0 (refusal_of o.answer)
+pushed r x o n e f = rw (← e, f)
 
 -- one byte of a piece fed, and then the rest of it
 pub feed_step : (f : Fed) (piece : List ℕ) (i : ℕ) → i < length piece → feed_rule (byte_rule f (get_or piece i 0)) (drop (suc i) piece) ≡ feed_rule f (drop i piece)

@@ -1,11 +1,12 @@
 -- Document 01, "The dump program": 8-byte little-endian values from an input that comes in pieces, pushed up to the first refusal.
 use Rattle.std.specs.Prelude.{ℕ, ◌+◌, ◌*◌, ◌/◌, ◌^◌, List, [], ◌∷◌, ◌++◌, ltb, eqb, Some, None}
 use Rattle.std.specs.declared.option.Option.{Option}
-use Rattle.rules.specs.declared.Refusal.{Refusal}
+use Rattle.std.specs.declared.num.NonZeroU64.{NonZeroU64}
+use Rattle.std.specs.NonZero.{non_zero_u64_get}
 use Rattle.rules.specs.Words.{when, unless, Answer, value, refused}
 use Rattle.rules.specs.Record.{Index, index, default_minimum, fresh_state}
 use Rattle.rules.specs.Push.{delta_bytes, push_rule}
-use Rattle.rules.specs.Refusals.{number_of, index_in}
+use Rattle.rules.specs.Refusals.{index_in}
 use Rattle.dump.specs.declared.Feed.{Feed}
 
 -- the index so far; how many bytes of the next value have come, and what they make; the number of the refusal, 0 for none
@@ -20,9 +21,9 @@ abbrev pub fed : Index → ℕ → ℕ → ℕ → Fed
 fed x count partial refusal = record { index = x; count = count; partial = partial; refusal = refusal }
 
 -- the number of the refusal that ended it, 0 for none
-abbrev pub number_in : Option Refusal → ℕ
+abbrev pub number_in : Option NonZeroU64 → ℕ
 number_in None = 0
-number_in (Some e) = number_of e
+number_in (Some n) = non_zero_u64_get n
 
 -- what the code carries
 abbrev pub fed_of : Feed → Fed

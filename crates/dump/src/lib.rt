@@ -5,7 +5,8 @@ ghost use Rattle.std.specs.Prelude.{◌≡◌};
 ghost use Rattle.rules.specs.Refusals.{SameTables};
 ghost use Rattle.dump.specs.Feeding.{fed_of, nothing, with_byte, byte_rule, feed_rule};
 
-use rules::{CompactWriter, Refusal};
+use rules::CompactWriter;
+use std::num::NonZeroU64;
 
 // What is carried from one piece of the input to the next.
 #[derive(Drop)]
@@ -16,8 +17,8 @@ pub struct Feed<'a> {
     pub count: u64,
     // What those bytes make, the last one on top.
     pub partial: u64,
-    // The refusal that ended it.
-    pub refusal: Option<Refusal>,
+    // The number of the refusal that ended it.
+    pub refusal: Option<NonZeroU64>,
 }
 
 impl<'a> Feed<'a> {
@@ -63,7 +64,7 @@ impl<'a> Feed<'a> {
     }
 
     // Takes one byte of the input; the eighth of a value ends it, and the value is pushed.
-    #[tactic(auto, using(crate::proofs::Pieces::kept, crate::proofs::Pieces::pushed), unfolding(crate::specs::Feeding::byte_rule))]
+    #[tactic(auto, using(crate::proofs::Pieces::kept, crate::proofs::Pieces::numbered, crate::proofs::Pieces::pushed), unfolding(crate::specs::Feeding::byte_rule))]
     fn feed_byte(&mut self, byte: u8)
         ensures carried { fed_of self.new ≡ byte_rule (fed_of self.old) byte }
         ensures lent { SameTables self.new.index self.old.index }
@@ -79,7 +80,10 @@ impl<'a> Feed<'a> {
         }
         self.count = 0;
         self.partial = 0;
-        self.refusal = compact_writer::push(&mut self.index, value).err();
+        self.refusal = match compact_writer::push(&mut self.index, value) {
+            Ok(_) => None,
+            Err(e) => NonZeroU64::new(u64::from(e)),
+        };
     }
 }
 

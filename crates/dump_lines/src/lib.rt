@@ -15,10 +15,10 @@ use tables::Segment;
 pub fn end_line(fed: &Feed<'_>) -> Line
     ensures { result.items ≡ end_line fed.now.index.state.length fed.now.count (number_in fed.now.refusal) }
 {
-    if let Some(e) = fed.refusal {
+    if let Some(number) = fed.refusal {
         let mut line = Line::new();
         dump_put::put_field(&mut line, b"refused ", fed.index.state.length);
-        dump_put::put_field(&mut line, b" number ", u64::from(e));
+        dump_put::put_field(&mut line, b" number ", number.get());
         dump_put::put(&mut line, b"\n");
         return line;
     }
