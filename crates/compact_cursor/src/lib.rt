@@ -2,9 +2,8 @@
 #![tactic(auto)]
 
 ghost use Rattle.std.specs.Prelude.{◌≡◌};
-ghost use Rattle.rules.specs.Reading.{step_rule};
-ghost use Rattle.rules.specs.Refusals.{index_of};
-ghost use Rattle.compact_cursor.specs.Moves.{left_by, stepped_to};
+ghost use Rattle.rules.specs.Reading.{step_rule, left_by};
+ghost use Rattle.rules.specs.Refusals.{index_of, stepped_to};
 
 use rules::{CompactReader, Cursor, Refusal};
 

@@ -6,8 +6,7 @@ ghost use Rattle.rules.specs.Push.{length_rule, size_rule};
 ghost use Rattle.rules.specs.Reading.{starts_up_to, get_rule, target_end, target_rule};
 ghost use Rattle.rules.specs.Refusals.{index_of, answer_of, target_of};
 
-use rules::{CompactReader, Refusal};
-use std::ops::Range;
+use rules::{CompactReader, Refusal, Target};
 use tables::Counted;
 
 // How many values the index holds.
@@ -55,10 +54,12 @@ fn starts_up_to(x: Counted<'_>, p: u64) -> u64
 
 // The target of position p, where t is the end of the last one: from the value at p to the smaller of the next value and t.
 #[tactic(auto, unfolding(rules::specs::Reading::target_rule))]
-pub fn target_range(x: &CompactReader<'_>, p: u64, t: u64) -> Result<Range<u64>, Refusal>
+pub fn target_range(x: &CompactReader<'_>, p: u64, t: u64) -> Result<Target, Refusal>
     ensures { target_of result ≡ target_rule (index_of x.now) p t }
 {
-    Ok(get(x, p)?..target_end(x, p, t)?)
+    let start = get(x, p)?;
+    let end = target_end(x, p, t)?;
+    Ok(Target { start, end })
 }
 
 // Where the target of position p ends: t for the last position, otherwise the smaller of the next value and t.

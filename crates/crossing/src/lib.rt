@@ -8,8 +8,7 @@ ghost use Rattle.rules.specs.Record.{index, state_at};
 ghost use Rattle.rules.specs.Refusals.{index_of, answer_of, target_of, step_of};
 ghost use Rattle.crossing.specs.Told.{told, telling, walked, step_telling, found, verdict_telling};
 
-use rules::{CompactReader, Cursor, Flaw, Refusal, State, Stayed};
-use std::ops::Range;
+use rules::{CompactReader, Cursor, Flaw, Refusal, State, Stayed, Target};
 
 // The index of a state's five numbers and the five lent tables, to read.
 pub fn reader<'a>(
@@ -46,13 +45,13 @@ pub fn tell<T: Copy>(answer: Result<T, Refusal>, behind: &mut T) -> u64
 }
 
 // Tells a target range: 0 and its start and end, or the refusal's number alone.
-pub fn tell_target(target: Result<Range<u64>, Refusal>, start: &mut u64, end: &mut u64) -> u64
+pub fn tell_target(target: Result<Target, Refusal>, start: &mut u64, end: &mut u64) -> u64
     ensures { told result (span start.new end.new) ≡ telling (target_of target) (span start.old end.old) }
 {
     match target {
-        Ok(range) => {
-            *start = range.start;
-            *end = range.end;
+        Ok(span) => {
+            *start = span.start;
+            *end = span.end;
             0
         }
         Err(e) => u64::from(e),

@@ -6,23 +6,23 @@ use mathlib.Core.Path.{◌≡◌, refl, sym, ap, ◌∙◌}
 use Rattle.std.specs.Prelude.{Err}
 use Rattle.std.specs.declared.result.Result.{Result}
 use Rattle.std.specs.declared.option.Option.{Option}
-use Rattle.std.specs.declared.ops.Range.{Range}
 use Rattle.rules.specs.declared.Cursor.{Cursor}
 use Rattle.rules.specs.declared.Refusal.{Refusal}
 use Rattle.rules.specs.declared.Stayed.{Stayed}
+use Rattle.rules.specs.declared.Target.{Target}
 use Rattle.rules.specs.Words.{Answer, refused}
 use Rattle.rules.specs.Record.{Index}
 use Rattle.rules.specs.Push.{outcome, push_rule}
-use Rattle.rules.specs.Reading.{Span, ranged, stays, range_rule, step_rule}
+use Rattle.rules.specs.Reading.{Span, Stepped, ranged, stays, range_rule, step_rule, left_by}
 use Rattle.rules.specs.Refusals.{number_of, answer_of, target_of, step_of}
 use Rattle.promises.specs.Sentences.{Sentence, Given, Exactly}
 use Rattle.promises.specs.Table.{push_table, get_table, range_table}
-use Rattle.promises.specs.Outcomes.{One, PushLeft, push_says, push_unchanged, RangeLeft, range_says, range_unchanged, step_unchanged}
+use Rattle.promises.specs.Outcomes.{One, PushLeft, push_says, push_unchanged, RangeLeft, range_says, range_unchanged, step_unchanged, NextLeft, next_says, next_rule, next_unchanged}
 use Rattle.promises.proofs.Deciding.{exactly}
 use Rattle.promises.proofs.Push.{push_decided}
 use Rattle.promises.proofs.Reading.{range_decided}
 use Rattle.promises.proofs.Steps.{step_decided}
-use Rattle.promises.proofs.One.{one_answer, one_targeted, one_stepped, one_pushed, one_ranged}
+use Rattle.promises.proofs.One.{one_answer, one_targeted, one_stepped, one_walked, one_pushed, one_ranged}
 use Rattle.promises.proofs.Stays.{push_refused, range_refused}
 
 -- an outcome is the refusal exactly when its number e is given: where the rule refuses e, the rule is what the refusal says
@@ -40,7 +40,7 @@ module _ {t : List Sentence} (e : Refusal) where
   answer_refuses = refuses answer_of (λ a. a) (Err e) (number_of e) (one_answer _) refl (λ q. q)
 
   -- target_range
-  pub target_refuses : {rule : Answer Span} → Exactly t rule → (c : Result (Range ℕ) Refusal) → target_of c ≡ rule → (c ≡ Err e) ↔ Given t (number_of e)
+  pub target_refuses : {rule : Answer Span} → Exactly t rule → (c : Result Target Refusal) → target_of c ≡ rule → (c ≡ Err e) ↔ Given t (number_of e)
   target_refuses = refuses target_of (λ a. a) (Err e) (number_of e) (one_targeted _) refl (λ q. q)
 
 -- a push: the refusal comes with the state and every entry of the five tables as they were
@@ -64,4 +64,13 @@ pub step_refuses : (x : Index) (c : Cursor) (e : Refusal) (r : Result (Option (�
 step_refuses x c e r promise = (
   λ h. ((step_decided x c).refuses (number_of e)).0 (sym promise ∙ ap step_of h),
   λ g. one_stepped (stays (number_of e) c) r (Err (step_unchanged c e)) (promise ∙ ((step_decided x c).refuses (number_of e)).1 g) refl,
+)
+
+-- a step of a lent cursor: the refusal leaves the cursor as it was
+pub next_refuses : (x : Index) (c : Cursor) (e : Refusal) (n : NextLeft) → next_says n ≡ next_rule x c
+    → (n ≡ next_unchanged c e) ↔ ((c.next < c.end) × Given (get_table x c.next) (number_of e))
+next_refuses x c e n promise = (
+  λ h. ((step_decided x c).refuses (number_of e)).0 (ap (λ (p : Stepped × Cursor). p.0) (sym promise ∙ ap next_says h)),
+  λ g. one_walked (next_says (next_unchanged c e)) n (next_unchanged c e)
+      (promise ∙ ap (λ (s : Stepped). (s, left_by c s)) (((step_decided x c).refuses (number_of e)).1 g)) refl,
 )

@@ -5,19 +5,19 @@ use lib.Dec.{eqb}
 use Rattle.std.specs.Prelude.{Ok, Err, Some, None}
 use Rattle.std.specs.declared.result.Result.{Result}
 use Rattle.std.specs.declared.option.Option.{Option}
-use Rattle.std.specs.declared.ops.Range.{Range}
 use Rattle.rules.specs.declared.Cursor.{Cursor}
 use Rattle.rules.specs.declared.Refusal.{Refusal}
 use Rattle.rules.specs.declared.Refusal.TheVariants.{Below, SegmentRoom, WidthRoom, DataRoom, Position, RangeEnd, Reversed, OutputRoom, Counts, Damaged, Minimum}
 use Rattle.rules.specs.declared.Stayed.{Stayed}
+use Rattle.rules.specs.declared.Target.{Target}
 use Rattle.rules.specs.declared.Letter as code-letter
 use Rattle.rules.specs.declared.Flaw.{Flaw}
 use Rattle.rules.specs.Words.{when, Answer, value, refused}
 use Rattle.rules.specs.Push.{Outcome}
 use Rattle.rules.specs.Reading.{Span, Ranged, Stepped, done, gave, stays}
-use Rattle.rules.specs.Refusals.{number_of, answer_of, target_of, step_of}
+use Rattle.rules.specs.Refusals.{number_of, answer_of, target_of, step_of, stepped_to}
 use Rattle.rules.specs.Audit.{Letter, A, B, C, D, E, F, Verdict, well_formed, flaw, letter_of, verdict_of}
-use Rattle.promises.specs.Outcomes.{One, PushLeft, push_says, RangeLeft, range_says}
+use Rattle.promises.specs.Outcomes.{One, PushLeft, push_says, RangeLeft, range_says, NextLeft, next_says}
 
 -- where an outcome can be had back from what is said of it, one outcome fits
 one : {C S : Type 0} (says : C → S) (back : S → C) (rule : S) → ((c : C) → back (says c) ≡ c) → One says rule
@@ -93,11 +93,11 @@ one_ranged rule = one range_says back rule (λ c. rw (same_answer c.answer))
 pub one_targeted : (rule : Answer Span) → One target_of rule
 one_targeted rule = one target_of back rule same
   where
-    back : Answer Span → Result (Range ℕ) Refusal
+    back : Answer Span → Result Target Refusal
     back (value s) = Ok (record { start = s.from; end = s.to })
     back (refused e) = Err (refusal_of e)
 
-    same : (c : Result (Range ℕ) Refusal) → back (target_of c) ≡ c
+    same : (c : Result Target Refusal) → back (target_of c) ≡ c
     same (Ok r) = refl
     same (Err e) = rw (same_refusal e)
 
@@ -114,6 +114,23 @@ one_stepped rule = one step_of back rule same
     same (Ok None) = refl
     same (Ok (Some p)) = refl
     same (Err s) = rw (same_refusal s.refusal)
+
+-- a step of a lent cursor: its answer, and the cursor
+pub one_walked : (rule : Stepped × Cursor) → One next_says rule
+one_walked rule = one next_says back rule (λ n. same n.cursor n.answer)
+  where
+    answer : Stepped → Result (Option ℕ) Refusal
+    answer done = Ok None
+    answer (gave v c) = Ok (Some v)
+    answer (stays e c) = Err (refusal_of e)
+
+    back : Stepped × Cursor → NextLeft
+    back p = record { answer = answer p.0; cursor = p.1 }
+
+    same : (c : Cursor) (r : Result (Option ℕ) Refusal) → back (stepped_to c r, c) ≡ record { answer = r; cursor = c }
+    same c (Ok None) = refl
+    same c (Ok (Some v)) = refl
+    same c (Err e) = rw (same_refusal e)
 
 -- the audit: well formed, or a letter and a segment
 pub one_judged : (rule : Verdict) → One verdict_of rule

@@ -5,9 +5,8 @@ ghost use Rattle.std.specs.Prelude.{◌≡◌, Some};
 ghost use Rattle.rules.specs.Refusals.{number_of, answer_of, target_of};
 ghost use Rattle.replay.specs.Replies.{reply, number_reply, span_reply, entry_reply, three_numbers};
 
-use rules::Refusal;
+use rules::{Refusal, Target};
 use std::fmt;
-use std::ops::Range;
 
 // An answer in a record's numbers.
 #[derive(Clone, Copy, PartialEq, Eq)]
@@ -79,12 +78,12 @@ impl From<Result<u64, Refusal>> for Reply {
     }
 }
 
-impl From<Result<Range<u64>, Refusal>> for Reply {
+impl From<Result<Target, Refusal>> for Reply {
     ghost from_gives = { λ a y. y ≡ span_reply (target_of a) };
 
-    fn from(answer: Result<Range<u64>, Refusal>) -> Reply {
+    fn from(answer: Result<Target, Refusal>) -> Reply {
         match answer {
-            Ok(range) => Reply::from((range.start, range.end)),
+            Ok(span) => Reply::from((span.start, span.end)),
             Err(e) => Reply::from(e),
         }
     }

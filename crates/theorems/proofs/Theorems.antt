@@ -8,11 +8,11 @@ use lib.ListN.{length, get_or, take, drop}
 use Rattle.std.specs.Prelude.{Err}
 use Rattle.std.specs.declared.result.Result.{Result}
 use Rattle.std.specs.declared.option.Option.{Option}
-use Rattle.std.specs.declared.ops.Range.{Range}
 use Rattle.rules.specs.declared.State.{State}
 use Rattle.rules.specs.declared.Cursor.{Cursor}
 use Rattle.rules.specs.declared.Refusal.{Refusal}
 use Rattle.rules.specs.declared.Stayed.{Stayed}
+use Rattle.rules.specs.declared.Target.{Target}
 use Rattle.rules.specs.Words.{Answer, value, refused}
 use Rattle.rules.specs.Record.{Index, length_of, minimum_of, segments_of, widths_of, used_of, last_of, start, base, width, room_of, open_rule}
 use Rattle.rules.specs.Push.{push_rule, length_rule, size_rule}
@@ -41,9 +41,9 @@ use Rattle.promises.proofs.Reading.{get_decided, range_decided, iter_decided, ta
 use Rattle.promises.proofs.Push.{push_decided}
 use Rattle.promises.proofs.Steps.{step_decided}
 use Rattle.promises.proofs.Audited.{audit_decided, audit_counts}
-use Rattle.promises.specs.Outcomes.{One, PushLeft, push_says, push_unchanged, RangeLeft, range_says, range_unchanged, step_unchanged}
+use Rattle.promises.specs.Outcomes.{One, PushLeft, push_says, push_unchanged, RangeLeft, range_says, range_unchanged, step_unchanged, NextLeft, next_says, next_rule, next_unchanged}
 use Rattle.promises.specs.Kept.{Appended, Does, Filled}
-use Rattle.promises.proofs.One.{one_answer, one_pushed, one_ranged, one_targeted, one_stepped, one_judged}
+use Rattle.promises.proofs.One.{one_answer, one_pushed, one_ranged, one_targeted, one_stepped, one_walked, one_judged}
 use Rattle.promises.proofs.Stays as stays-laws
 use Rattle.promises.proofs.Answers as code
 
@@ -298,8 +298,13 @@ module _ (e : Refusal) where
       → (r ≡ Err (step_unchanged c e)) ↔ ((c.next < c.end) × Given (get_table x c.next) (number_of e))
   step_refuses x c = code.step_refuses x c e
 
+  -- a step of a lent cursor, which is left as it was
+  pub next_refuses : (x : Index) (c : Cursor) (n : NextLeft) → next_says n ≡ next_rule x c
+      → (n ≡ next_unchanged c e) ↔ ((c.next < c.end) × Given (get_table x c.next) (number_of e))
+  next_refuses x c = code.next_refuses x c e
+
   -- target_range
-  pub target_refuses : (x : Index) (p t : ℕ) (c : Result (Range ℕ) Refusal) → target_of c ≡ target_rule x p t → (c ≡ Err e) ↔ Given (target_table x p) (number_of e)
+  pub target_refuses : (x : Index) (p t : ℕ) (c : Result Target Refusal) → target_of c ≡ target_rule x p t → (c ≡ Err e) ↔ Given (target_table x p) (number_of e)
   target_refuses x p t = code.target_refuses e (target_exactly x p t)
 
 -- NO SECOND ANSWER: two outcomes of the code that both meet a promise are equal, at any input. Opening
@@ -333,6 +338,10 @@ one_iter x a b = one_answer (iter_rule x a b)
 -- a step: the answer with its cursor
 pub one_step : (x : Index) (c : Cursor) → One step_of (step_rule x c)
 one_step x c = one_stepped (step_rule x c)
+
+-- a step of a lent cursor: its answer, and the cursor as it is left
+pub one_next : (x : Index) (c : Cursor) → One next_says (next_rule x c)
+one_next x c = one_walked (next_rule x c)
 
 -- a delta run's count
 pub one_run_count : (bytes : List ℕ) (w : ℕ) → One answer_of (run_count_rule bytes w)
