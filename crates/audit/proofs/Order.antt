@@ -19,7 +19,7 @@ pub tests_tell : (ts : List Test) → (when_all ts true false ≡ false) ⊎ Fac
 tests_tell ts = by_test (when_all ts true false) (λ t. inr (facts_of ts t)) (λ t. inl t)
 
 -- no rule is left
-flaw_none : (k : ℕ) → first_flaw k [] ≡ well_formed
+pub flaw_none : (k : ℕ) → first_flaw k [] ≡ well_formed
 unfolding first_flaw
 flaw_none k = refl
 

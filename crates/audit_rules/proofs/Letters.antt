@@ -11,15 +11,23 @@ use native.Mathlib.Omega.{arith}
 use native.Mathlib.Nat.{pow-le-pow_right, lt_of_lt_of_le}
 use lib.Dec.{ltb, lit<}
 use lib.ListN.{length, get_or}
-use borrow.Author.Tests.{ltb-true, ltb-false}
+use borrow.Author.Tests.{ltb-true, ltb-false, lt-ltb}
 use Rattle.rules.specs.Words.{when_all, all_below}
-use Rattle.rules.specs.Record.{Index, segments_of, base}
+use Rattle.rules.specs.Record.{Index, segments_of, widths_of, used_of, base, offset, edge, mark}
 use Rattle.rules.specs.Push.{byte_width, delta_at}
 use Rattle.rules.specs.Audit.{tests_f}
-use Rattle.audit_rules.specs.Letters.{rule_d}
+use Rattle.audit_rules.specs.Letters.{rule_b, rule_d, rule_e}
 use Rattle.laws.proofs.Tests.{by_test, same_test, facts_of, taken, all_fact, all_held}
 use Rattle.laws.proofs.Widths.{width_holds, width_least}
 use Rattle.laws.proofs.Bytes.{delta_room, delta_at_below}
+
+-- B leaves room between a segment's edges
+pub b_room : (x : Index) (k : ℕ) → when_all (rule_b x k) true false ≡ true → edge x k < edge x (k + 1)
+b_room x k e =
+    let f = facts_of (rule_b x k) e in
+    by_test (ltb (k + 1) (segments_of x))
+    (λ t. let l = f.1.0 (ltb-true (k + 1) (segments_of x) t) in omega arith)
+    (λ t. let l = f.1.1.0 (ltb-false (k + 1) (segments_of x) t) in rw t l)
 
 -- D: the next base is far enough exactly where the gap takes more than w bytes
 pub d_same : (x : Index) (k w : ℕ) → k + 1 < segments_of x → base x (k + 1) < 2 ^ 64 → base x k ≤ base x (k + 1) → 1 ≤ w
@@ -38,8 +46,17 @@ d_same x k w more small h pos =
     by_test (ltb w (byte_width gap)) (λ u. u)
     (λ u. let n = lt_of_lt_of_le (width_holds gap (omega arith)) (pow-le-pow_right {n = 256} (lit< tt) (ltb-false w (byte_width gap) u)) in absurd (omega arith)))
 
+-- E keeps the deltas within used
+pub e_room : (x : Index) (k d w : ℕ) → k < segments_of x → k < widths_of x → when_all (rule_e x k d w) true false ≡ true → offset x k + d * w ≤ used_of x
+e_room x k d w inside has e =
+    let f = facts_of (rule_e x k d w) e in
+    let a = f.1.0 has in
+    let b = f.1.1.0 has in
+    let here : mark x k ≡ offset x k = rw (lt-ltb k (segments_of x) inside) in
+    omega arith
+
 -- one number that is not below makes the whole false
-one_over : (n : ℕ) (f : ℕ → ℕ) (b i : ℕ) → i < n → b ≤ f i → all_below n f b ≡ false
+pub one_over : (n : ℕ) (f : ℕ → ℕ) (b i : ℕ) → i < n → b ≤ f i → all_below n f b ≡ false
 one_over n f b i h l = by_test (all_below n f b) (λ t. let g = all_fact n f b t i h in absurd (omega arith)) (λ t. t)
 
 -- where any delta of this width fits, all d do

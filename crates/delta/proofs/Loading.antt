@@ -4,7 +4,7 @@ use mathlib.Core.List.{List, [], ◌∷◌, reverse}
 use mathlib.Core.Path.{◌≡◌, refl, sym, ap, ◌∙◌}
 use native.Mathlib.Numerals.{add-one}
 use native.Mathlib.Omega.{arith}
-use native.Mathlib.Nat.{add-suc, add-zero, pow-suc, pow-le-pow_right, one-le-pow, mod-lt, mod-one, mod-eq_of_lt, mod-add-div, add-mul-mod_self_left, add-mul, mul_assoc, mul_comm, mul-div_cancel, le-div_iff_mul-le, div-lt_iff_lt-mul}
+use native.Mathlib.Nat.{add-suc, add-zero, pow-suc, pow-le-pow_right, one-le-pow, lt_of_lt_of_le, mod-lt, mod-one, mod-eq_of_lt, mod-add-div, add-mul-mod_self_left, add-mul, mul_assoc, mul_comm, mul-div_cancel, le-div_iff_mul-le, div-lt_iff_lt-mul}
 use lib.Dec.{lit<, leb}
 use lib.Bits.{bit_or}
 use lib.ListN.{length, get_or, take, drop}
@@ -23,6 +23,25 @@ use Rattle.laws.proofs.Bytes.{delta_room, delta_at_below, delta_same}
 delta_grow : (s : List ℕ) (at k : ℕ) → delta_at s at (k + 1) ≡ delta_at s (at + 1) k * 256 + get_or s at 0
 unfolding delta_at
 delta_grow s at k = rw (add-one k, add-one at, delta_at) (omega arith)
+
+-- a byte in front of the i-th to the last of w bytes
+module _ (s : List ℕ) (at w i v : ℕ) (pos : 0 < i) (le : i ≤ w) where
+  -- makes the next number
+  pub delta_turn : v ≡ delta_at s (at + i) (w - i) → v * 256 + get_or s (at + (i - 1)) 0 ≡ delta_at s (at + (i - 1)) (w - (i - 1))
+  delta_turn e =
+      let e1 : w - (i - 1) ≡ (w - i) + 1 = omega arith in
+      let e2 : at + (i - 1) + 1 ≡ at + i = omega arith in
+      rw (e1, delta_grow s (at + (i - 1)) (w - i), e2, e)
+
+  -- which is below 256 to the number of its bytes
+  pub below_turn : (b : ℕ) → v < 256 ^ (w - i) → b < 256 → v * 256 + b < 256 ^ (w - (i - 1))
+  below_turn b hv hb =
+      let e1 : w - (i - 1) ≡ suc (w - i) = omega arith in
+      rw (e1, pow-suc 256 (w - i)) (omega arith)
+
+-- up to 8 bytes fit 64 bits
+pub below_fits : (k v : ℕ) → k ≤ 8 → v < 256 ^ k → v < 2 ^ 64
+below_fits k v hk hv = lt_of_lt_of_le hv (pow-le-pow_right {n = 256} (lit< tt) hk)
 
 -- a part's deltas are the whole's
 pub delta_drop : (s : List ℕ) (from at k : ℕ) → delta_at (drop from s) at k ≡ delta_at s (from + at) k
@@ -108,7 +127,7 @@ module _ (w : ℕ) (least : 1 ≤ w) (most : w ≤ 8) where
       ap (λ z. z / above) e1 ∙ mul-div_cancel (x % 256 ^ w) some
 
   -- so w bytes or more, shifted up and down again, are the delta of w bytes
-  word_cut : (s : List ℕ) (at n : ℕ) → w ≤ n → at + n ≤ length s → ((i : ℕ) → i < length s → get_or s i 0 < 256) → delta_at s at n * 2 ^ (64 - 8 * w) % 2 ^ 64 / 2 ^ (64 - 8 * w) ≡ delta_at s at w
+  pub word_cut : (s : List ℕ) (at n : ℕ) → w ≤ n → at + n ≤ length s → ((i : ℕ) → i < length s → get_or s i 0 < 256) → delta_at s at n * 2 ^ (64 - 8 * w) % 2 ^ 64 / 2 ^ (64 - 8 * w) ≡ delta_at s at w
   word_cut s at n more h b =
       let e : n ≡ w + (n - w) = omega arith in
       shift_cut (delta_at s at n) ∙ ap (λ x. delta_at s at x % 256 ^ w) e ∙ delta_mod w (n - w) s at (omega arith) b

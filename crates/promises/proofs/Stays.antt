@@ -13,7 +13,7 @@ use Rattle.rules.specs.declared.Cursor.{Cursor}
 use Rattle.rules.specs.Words.{unless, Answer, value, refused}
 use Rattle.rules.specs.Record.{Index, length_of, counts_hold}
 use Rattle.rules.specs.Push.{Plan, refuse, segment, first, more, plan_of, effect, push_rule}
-use Rattle.rules.specs.Reading.{get_rule, in_range, reads, written, range_rule, stays, moved, step_rule}
+use Rattle.rules.specs.Reading.{get_rule, in_range, reads, written, range_rule, stays, moved, step_rule, left_by}
 use Rattle.laws.proofs.Tests.{when_case}
 use Rattle.promises.specs.Kept.{Appended, Does, Filled}
 use Rattle.promises.proofs.Stores.{kept_sets, sets_at}
@@ -103,3 +103,12 @@ step_refused x c d e = when_case (λ s. s ≡ stays e d → d ≡ c) (leb c.end 
     by_answer : (r : Answer ℕ) → moved c r ≡ stays e d → d ≡ c
     by_answer (value v) q = cc
     by_answer (refused f) q = cc
+
+-- a step never moves the end
+pub end_stays : (x : Index) (c : Cursor) → (left_by c (step_rule x c)).end ≡ c.end
+unfolding step_rule
+end_stays x c = when_case (λ s. (left_by c s).end ≡ c.end) (leb c.end c.next) (λ t. refl) (λ t. by_answer (get_rule x c.next))
+  where
+    by_answer : (r : Answer ℕ) → (left_by c (moved c r)).end ≡ c.end
+    by_answer (value v) = refl
+    by_answer (refused e) = refl
