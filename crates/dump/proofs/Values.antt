@@ -1,17 +1,23 @@
 -- What feeding means for whole inputs: values pushed up to the first refusal, a tail of the input's length modulo 8,
--- and a refusal's number that counts the values before it.
+-- a refusal's number that counts the values before it, and no number kept but a refusal's.
 use Prim.Native.Nat.{ℕ, ◌+◌, ◌%◌, ◌^◌, ◌<◌}
 use mathlib.Core.List.{List, [], ◌∷◌, ◌++◌}
 use mathlib.Core.Path.{◌≡◌, refl, sym, ap, ◌∙◌}
 use native.Mathlib.Omega.{arith}
-use lib.Dec.{ltb, eqb}
+use lib.Dec.{ltb, eqb, lit<}
 use lib.ListN.{length}
 use borrow.Author.Tests.{eqb-true, eqb-false, ltb-true, ltb-false, ne_eqb}
+use Rattle.std.specs.declared.option.Option.{Option}
+use Rattle.std.specs.Prelude.{Some, None, not}
+use Rattle.std.specs.Option.{is_some}
+use Rattle.rules.specs.declared.Refusal.{Refusal}
+use Rattle.rules.specs.declared.Refusal.TheVariants.{Below, SegmentRoom, WidthRoom, DataRoom, Position, RangeEnd, Reversed, OutputRoom, Counts, Damaged, Minimum}
+use Rattle.rules.specs.Refusals.{number_of}
 use Rattle.rules.specs.Record.{Index, length_of, segments_of, widths_of, last_of, room_of, counts_hold}
 use Rattle.rules.specs.Push.{delta_at, Plan, refuse, segment, first, more, segment_plan, first_plan, next_plan, plan_of, effect, push_rule}
 use Rattle.laws.proofs.Tests.{by_test, when_case, when_all_case}
 use Rattle.laws.proofs.Bytes.{delta_stored}
-use Rattle.dump.specs.Feeding.{Fed, fed, refusal_of, value_rule, byte_rule, feed_rule, bytes_of, push_all}
+use Rattle.dump.specs.Feeding.{Fed, fed, with_byte, refusal_of, value_rule, byte_rule, feed_rule, bytes_of, push_all}
 use Rattle.dump.proofs.Pieces.{value_fed}
 
 -- nothing is taken after a refusal
@@ -65,32 +71,66 @@ feed_tail (b ∷ bs) f h e =
     let never = eqb-false f.refusal 0 t in
     absurd (never (rw (feed_ended f (b ∷ bs) never) at e)))
 
--- a refusal has a number
+-- the number of a refusal, 0 for none
+abbrev pub number_or_none : Option Refusal → ℕ
+number_or_none None = 0
+number_or_none (Some e) = number_of e
+
+-- such a number
+abbrev pub Named : ℕ → Type 0
+Named n = (o : Option Refusal) × (number_or_none o ≡ n)
+
+-- a refusal's number is above 0
+pub number_above : (e : Refusal) → 0 < number_of e
+number_above Below = lit< tt
+number_above SegmentRoom = lit< tt
+number_above WidthRoom = lit< tt
+number_above DataRoom = lit< tt
+number_above Position = lit< tt
+number_above RangeEnd = lit< tt
+number_above Reversed = lit< tt
+number_above OutputRoom = lit< tt
+number_above Counts = lit< tt
+number_above Damaged = lit< tt
+number_above Minimum = lit< tt
+
+-- so it is 0 where there is none
+pub named_kept : (o : Option Refusal) → eqb (number_or_none o) 0 ≡ not (is_some o)
+named_kept None = refl
+named_kept (Some e) = let above = number_above e in ne_eqb (number_of e) 0 (λ z. absurd (omega arith))
+
+-- a plan refuses by a refusal's number
 abbrev Numbered : Plan → Type 0
-Numbered (refuse e) = 0 < e
+Numbered (refuse e) = (0 < e) × Named e
 Numbered segment = Unit {0}
 Numbered (first d n) = Unit {0}
 Numbered (more d w) = Unit {0}
+
+-- as any refusal does
+numbered : (e : Refusal) → Numbered (refuse (number_of e))
+numbered e = (number_above e, (Some e, refl))
 
 module _ (x : Index) where
   -- a new segment's
   segment_numbered : Numbered (segment_plan x.state (room_of x))
   unfolding segment_plan
-  segment_numbered = when_all_case Numbered _ (λ f. tt) (λ f. omega arith)
+  segment_numbered = when_all_case Numbered _ (λ f. tt) (λ f. numbered SegmentRoom)
 
   -- a first delta's
   first_numbered : (base v : ℕ) → Numbered (first_plan x.state (room_of x) base v)
   unfolding first_plan
   first_numbered base v =
-      when_all_case Numbered _ (λ f. when_all_case Numbered _ (λ g. when_all_case Numbered _ (λ h. tt) (λ h. omega arith)) (λ g. omega arith)) (λ f. omega arith)
+      when_all_case Numbered _
+      (λ f. when_all_case Numbered _ (λ g. when_all_case Numbered _ (λ h. tt) (λ h. numbered DataRoom)) (λ g. numbered WidthRoom))
+      (λ f. numbered Below)
 
   -- a further delta's
   next_numbered : (base width v : ℕ) → Numbered (next_plan x.state (room_of x) base width v)
   unfolding next_plan
   next_numbered base width v =
       when_all_case Numbered _
-      (λ f. when_all_case Numbered _ (λ g. when_all_case Numbered _ (λ h. when_all_case Numbered _ (λ i. tt) (λ i. omega arith)) (λ h. segment_numbered)) (λ g. omega arith))
-      (λ f. omega arith)
+      (λ f. when_all_case Numbered _ (λ g. when_all_case Numbered _ (λ h. when_all_case Numbered _ (λ i. tt) (λ i. numbered DataRoom)) (λ h. segment_numbered)) (λ g. numbered Below))
+      (λ f. numbered Damaged)
 
   -- and a push's
   plan_numbered : (v : ℕ) → Numbered (plan_of x v)
@@ -99,7 +139,27 @@ module _ (x : Index) where
       when_case Numbered (counts_hold x)
       (λ c. when_case Numbered (eqb (segments_of x) 0) (λ e. segment_numbered)
       (λ e. when_case Numbered (ltb (last_of x) (widths_of x)) (λ w. next_numbered _ _ v) (λ w. first_numbered _ v)))
-      (λ c. omega arith)
+      (λ c. numbered Counts)
+
+-- what a plan does keeps no other number
+effect_named : (x : Index) (v : ℕ) (p : Plan) → Numbered p → Named (refusal_of (effect x v p).answer)
+effect_named x v (refuse e) n = n.1
+effect_named x v segment n = (None, refl)
+effect_named x v (first d w) n = (None, refl)
+effect_named x v (more d w) n = (None, refl)
+
+-- feeding keeps no number but a refusal's
+pub feed_named : (bs : List ℕ) (f : Fed) → Named f.refusal → Named (feed_rule f bs).refusal
+unfolding feed_rule byte_rule push_rule
+feed_named [] f h = h
+feed_named (b ∷ bs) f h =
+    by_test (eqb f.refusal 0)
+    (λ t. by_test (ltb f.count 7)
+    (λ u. feed_named bs (byte_rule f b) (rw (t, u, byte_rule) (None, refl)))
+    (λ u.
+    let v = with_byte f.partial b in
+    feed_named bs (byte_rule f b) (rw (t, u, byte_rule, push_rule) (effect_named f.index v (plan_of f.index v) (plan_numbered f.index v)))))
+    (λ t. feed_named bs (byte_rule f b) (rw (t, byte_rule) h))
 
 -- what a plan does to the length: one more where it is not a refusal
 effect_length : (x : Index) (v : ℕ) (p : Plan) → Numbered p → refusal_of (effect x v p).answer ≡ 0 → length_of (effect x v p).left ≡ length_of x + 1

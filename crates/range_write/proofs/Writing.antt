@@ -124,6 +124,7 @@ module _ (x : Index) (k : ℕ) where
     pub least : minimum_of x ≤ w
     pub most : w ≤ 8
     pub from : place q w ≤ used_of x
+    pub room : place q w + n * w ≤ used_of x
     pub run : Run (between (place q w) (length x.bytes) x.bytes) (base x k) w n
     pub same : (j : ℕ) → j < n → sums (between (place q w) (length x.bytes) x.bytes) (base x k) w j ≡ value_of (read_in x k (q + j))
 
@@ -135,6 +136,8 @@ module _ (x : Index) (k : ℕ) where
       let moved = λ (j : ℕ). delta_place (offset x k) (start x k) q j w l in
       let ends : (j : ℕ) → j < n → place q w + j * w + w ≤ used_of x = λ j i. rw (moved j) (d j i).ends in
       let long = length-between x.bytes (place q w) (length x.bytes) (omega arith) in
+      let last : n - 1 + 1 ≡ n = omega arith in
+      let all : (n - 1) * w + w ≡ n * w = next_place (n - 1) w ∙ ap (λ (j : ℕ). j * w) last in
       let at : (j : ℕ) → j < n → delta_at (between (place q w) (length x.bytes) x.bytes) (j * w) w ≡ delta_at x.bytes (place (q + j) w) w =
       λ j i. delta_between x.bytes (place q w) (length x.bytes) (j * w) w (omega (arith, ends j i)) ∙ ap (λ (o : ℕ). delta_at x.bytes o w) (moved j) in
       rw (← c) (record {
@@ -142,6 +145,7 @@ module _ (x : Index) (k : ℕ) where
         least = (d 0 some).least;
         most = (d 0 some).most;
         from = omega (arith, ends 0 some);
+        room = omega (arith, ends (n - 1) (omega arith), all);
         run = λ j i. (omega (arith, ends j i), omega (arith, at j i, (d j i).fits));
         same = λ j i. ap (λ (v : ℕ). base x k + v) (at j i) ∙ sym (d j i).is;
       })
