@@ -8,17 +8,19 @@ use lib.Dec.{ltb, eqb, lit<}
 use lib.ListN.{length}
 use borrow.Author.Tests.{eqb-true, eqb-false, ltb-true, ltb-false, ne_eqb}
 use Rattle.std.specs.declared.option.Option.{Option}
-use Rattle.std.specs.Prelude.{Some, None, not}
+use Rattle.std.specs.Prelude.{Ok, Err, Some, None, not}
 use Rattle.std.specs.Option.{is_some}
+use Rattle.std.specs.Result.{result_err}
+use Rattle.std.specs.declared.result.Result.{Result}
 use Rattle.rules.specs.declared.Refusal.{Refusal}
 use Rattle.rules.specs.declared.Refusal.TheVariants.{Below, SegmentRoom, WidthRoom, DataRoom, Position, RangeEnd, Reversed, OutputRoom, Counts, Damaged, Minimum}
-use Rattle.rules.specs.Refusals.{number_of}
+use Rattle.rules.specs.Refusals.{number_of, answer_of}
 use Rattle.rules.specs.Record.{Index, length_of, segments_of, widths_of, last_of, room_of, counts_hold}
-use Rattle.rules.specs.Push.{delta_at, Plan, refuse, segment, first, more, segment_plan, first_plan, next_plan, plan_of, effect, push_rule}
+use Rattle.rules.specs.Push.{delta_at, Outcome, outcome, Plan, refuse, segment, first, more, segment_plan, first_plan, next_plan, plan_of, effect, push_rule}
 use Rattle.laws.proofs.Tests.{by_test, when_case, when_all_case}
 use Rattle.laws.proofs.Bytes.{delta_stored}
 use Rattle.dump.specs.Feeding.{Fed, fed, with_byte, refusal_of, value_rule, byte_rule, feed_rule, bytes_of, push_all}
-use Rattle.dump.proofs.Pieces.{value_fed}
+use Rattle.dump.proofs.Pieces.{value_fed, pushed}
 
 -- nothing is taken after a refusal
 pub feed_ended : (f : Fed) (bs : List ℕ) → (f.refusal ≡ 0 → ⊥) → feed_rule f bs ≡ f
@@ -94,10 +96,15 @@ number_above Counts = lit< tt
 number_above Damaged = lit< tt
 number_above Minimum = lit< tt
 
--- so it is 0 where there is none
+-- so it is 0 just where there is none
 pub named_kept : (o : Option Refusal) → eqb (number_or_none o) 0 ≡ not (is_some o)
 named_kept None = refl
-named_kept (Some e) = let above = number_above e in ne_eqb (number_of e) 0 (λ z. absurd (omega arith))
+named_kept (Some e) = ne_eqb (number_of e) 0 (λ z. absurd (omega (arith, number_above e)))
+
+-- the refusal of a push that the code makes is the one that the rule carries
+pub named_pushed : (r : Result ℕ Refusal) (x : Index) (o : Outcome) → outcome (answer_of r) x ≡ o → fed x 0 0 (number_or_none (result_err r)) ≡ fed o.left 0 0 (refusal_of o.answer)
+named_pushed (Ok p) x o e = pushed (Ok p) x o 0 e refl
+named_pushed (Err n) x o e = pushed (Err n) x o (number_of n) e refl
 
 -- a plan refuses by a refusal's number
 abbrev Numbered : Plan → Type 0
@@ -106,31 +113,31 @@ Numbered segment = Unit {0}
 Numbered (first d n) = Unit {0}
 Numbered (more d w) = Unit {0}
 
--- as any refusal does
-numbered : (e : Refusal) → Numbered (refuse (number_of e))
-numbered e = (number_above e, (Some e, refl))
+-- each refusal's number will do
+refusal_numbered : (e : Refusal) → Numbered (refuse (number_of e))
+refusal_numbered e = (number_above e, (Some e, refl))
 
 module _ (x : Index) where
   -- a new segment's
   segment_numbered : Numbered (segment_plan x.state (room_of x))
   unfolding segment_plan
-  segment_numbered = when_all_case Numbered _ (λ f. tt) (λ f. numbered SegmentRoom)
+  segment_numbered = when_all_case Numbered _ (λ f. tt) (λ f. refusal_numbered SegmentRoom)
 
   -- a first delta's
   first_numbered : (base v : ℕ) → Numbered (first_plan x.state (room_of x) base v)
   unfolding first_plan
   first_numbered base v =
       when_all_case Numbered _
-      (λ f. when_all_case Numbered _ (λ g. when_all_case Numbered _ (λ h. tt) (λ h. numbered DataRoom)) (λ g. numbered WidthRoom))
-      (λ f. numbered Below)
+      (λ f. when_all_case Numbered _ (λ g. when_all_case Numbered _ (λ h. tt) (λ h. refusal_numbered DataRoom)) (λ g. refusal_numbered WidthRoom))
+      (λ f. refusal_numbered Below)
 
   -- a further delta's
   next_numbered : (base width v : ℕ) → Numbered (next_plan x.state (room_of x) base width v)
   unfolding next_plan
   next_numbered base width v =
       when_all_case Numbered _
-      (λ f. when_all_case Numbered _ (λ g. when_all_case Numbered _ (λ h. when_all_case Numbered _ (λ i. tt) (λ i. numbered DataRoom)) (λ h. segment_numbered)) (λ g. numbered Below))
-      (λ f. numbered Damaged)
+      (λ f. when_all_case Numbered _ (λ g. when_all_case Numbered _ (λ h. when_all_case Numbered _ (λ i. tt) (λ i. refusal_numbered DataRoom)) (λ h. segment_numbered)) (λ g. refusal_numbered Below))
+      (λ f. refusal_numbered Damaged)
 
   -- and a push's
   plan_numbered : (v : ℕ) → Numbered (plan_of x v)
@@ -139,27 +146,30 @@ module _ (x : Index) where
       when_case Numbered (counts_hold x)
       (λ c. when_case Numbered (eqb (segments_of x) 0) (λ e. segment_numbered)
       (λ e. when_case Numbered (ltb (last_of x) (widths_of x)) (λ w. next_numbered _ _ v) (λ w. first_numbered _ v)))
-      (λ c. numbered Counts)
+      (λ c. refusal_numbered Counts)
 
--- what a plan does keeps no other number
+-- what a plan does keeps no number but a refusal's
 effect_named : (x : Index) (v : ℕ) (p : Plan) → Numbered p → Named (refusal_of (effect x v p).answer)
 effect_named x v (refuse e) n = n.1
 effect_named x v segment n = (None, refl)
 effect_named x v (first d w) n = (None, refl)
 effect_named x v (more d w) n = (None, refl)
 
--- feeding keeps no number but a refusal's
-pub feed_named : (bs : List ℕ) (f : Fed) → Named f.refusal → Named (feed_rule f bs).refusal
-unfolding feed_rule byte_rule push_rule
-feed_named [] f h = h
-feed_named (b ∷ bs) f h =
-    by_test (eqb f.refusal 0)
-    (λ t. by_test (ltb f.count 7)
-    (λ u. feed_named bs (byte_rule f b) (rw (t, u, byte_rule) (None, refl)))
-    (λ u.
+-- nor does a byte
+byte_named : (f : Fed) (b : ℕ) → Named f.refusal → Named (byte_rule f b).refusal
+unfolding byte_rule push_rule
+byte_named f b h =
+    let x = f.index in
     let v = with_byte f.partial b in
-    feed_named bs (byte_rule f b) (rw (t, u, byte_rule, push_rule) (effect_named f.index v (plan_of f.index v) (plan_numbered f.index v)))))
-    (λ t. feed_named bs (byte_rule f b) (rw (t, byte_rule) h))
+    when_case (λ (g : Fed). Named g.refusal) (eqb f.refusal 0)
+    (λ t. when_case (λ (g : Fed). Named g.refusal) (ltb f.count 7) (λ u. (None, refl)) (λ u. effect_named x v (plan_of x v) (plan_numbered x v)))
+    (λ t. h)
+
+-- nor a piece
+pub feed_named : (bs : List ℕ) (f : Fed) → Named f.refusal → Named (feed_rule f bs).refusal
+unfolding feed_rule
+feed_named [] f h = h
+feed_named (b ∷ bs) f h = feed_named bs (byte_rule f b) (byte_named f b h)
 
 -- what a plan does to the length: one more where it is not a refusal
 effect_length : (x : Index) (v : ℕ) (p : Plan) → Numbered p → refusal_of (effect x v p).answer ≡ 0 → length_of (effect x v p).left ≡ length_of x + 1

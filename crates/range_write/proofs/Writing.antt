@@ -118,7 +118,7 @@ module _ (x : Index) (k : ℕ) where
       record { has = t; least = d.0; most = d.1; ends = d.2; fits = d.3; is = rw (l, n, t, read_in) d.4 })
       (λ t. false_not_true false (rw (l, n, t, read_in) at e) refl)
 
-  -- the n deltas of w bytes from position q on: their bytes are there, their sums fit, and they are the reads
+  -- the n deltas of w bytes from position q on: their bytes are in use, their sums fit, and they are the reads
   pub record RunOf (w q n : ℕ) : Type 0 where
     pub has : ltb k (widths_of x) ≡ true
     pub least : minimum_of x ≤ w
