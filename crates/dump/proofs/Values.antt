@@ -7,16 +7,16 @@ use native.Mathlib.Omega.{arith}
 use lib.Dec.{ltb, eqb, lit<}
 use lib.ListN.{length}
 use borrow.Author.Tests.{eqb-true, eqb-false, ltb-true, ltb-false, ne_eqb}
+use Rattle.std.specs.declared.result.Result.{Result}
 use Rattle.std.specs.declared.option.Option.{Option}
 use Rattle.std.specs.Prelude.{Ok, Err, Some, None, not}
 use Rattle.std.specs.Option.{is_some}
 use Rattle.std.specs.Result.{result_err}
-use Rattle.std.specs.declared.result.Result.{Result}
 use Rattle.rules.specs.declared.Refusal.{Refusal}
 use Rattle.rules.specs.declared.Refusal.TheVariants.{Below, SegmentRoom, WidthRoom, DataRoom, Position, RangeEnd, Reversed, OutputRoom, Counts, Damaged, Minimum}
-use Rattle.rules.specs.Refusals.{number_of, answer_of}
 use Rattle.rules.specs.Record.{Index, length_of, segments_of, widths_of, last_of, room_of, counts_hold}
 use Rattle.rules.specs.Push.{delta_at, Outcome, outcome, Plan, refuse, segment, first, more, segment_plan, first_plan, next_plan, plan_of, effect, push_rule}
+use Rattle.rules.specs.Refusals.{number_of, answer_of}
 use Rattle.laws.proofs.Tests.{by_test, when_case, when_all_case}
 use Rattle.laws.proofs.Bytes.{delta_stored}
 use Rattle.dump.specs.Feeding.{Fed, fed, with_byte, refusal_of, value_rule, byte_rule, feed_rule, bytes_of, push_all}
@@ -83,7 +83,7 @@ abbrev pub Named : ℕ → Type 0
 Named n = (o : Option Refusal) × (number_or_none o ≡ n)
 
 -- a refusal's number is above 0
-pub number_above : (e : Refusal) → 0 < number_of e
+number_above : (e : Refusal) → 0 < number_of e
 number_above Below = lit< tt
 number_above SegmentRoom = lit< tt
 number_above WidthRoom = lit< tt
@@ -136,7 +136,9 @@ module _ (x : Index) where
   unfolding next_plan
   next_numbered base width v =
       when_all_case Numbered _
-      (λ f. when_all_case Numbered _ (λ g. when_all_case Numbered _ (λ h. when_all_case Numbered _ (λ i. tt) (λ i. refusal_numbered DataRoom)) (λ h. segment_numbered)) (λ g. refusal_numbered Below))
+      (λ f. when_all_case Numbered _
+      (λ g. when_all_case Numbered _ (λ h. when_all_case Numbered _ (λ i. tt) (λ i. refusal_numbered DataRoom)) (λ h. segment_numbered))
+      (λ g. refusal_numbered Below))
       (λ f. refusal_numbered Damaged)
 
   -- and a push's
